@@ -1,0 +1,5 @@
+pub mod Bytes
+pub mod Reading
+pub mod Views
+pub mod Walk
+pub mod Determined

@@ -1,0 +1,200 @@
+// Reading bytes: what every reader of BMP shares.
+ghost use mathlib.Core.Path.{_≡_};
+ghost use Prim.Native.Nat.{_-_};
+ghost use lib.ListN.{length};
+ghost use Rattle.wire.specs.Bytes.{numberAt};
+ghost use Rattle.wire.specs.Read.{cutAt, read, asU8, asU16, asU32, asU64};
+ghost use Rattle.wire.specs.View.{inside, viewed};
+
+// The numbers that answers carry (docs/RULES.md, "Numbers").
+pub const GOOD: u8 = 0;
+
+pub const TOO_LONG: u8 = 1;
+
+pub const CUT: u8 = 2;
+
+pub const BAD_VERSION: u8 = 3;
+
+pub const UNKNOWN_KIND: u8 = 4;
+
+pub const BAD_TLV_TYPE: u8 = 5;
+
+pub const BGP_LENGTH: u8 = 6;
+
+pub const TOO_MANY: u8 = 7;
+
+pub const BAD_OPEN_BMP: u8 = 8;
+
+pub const UNSUPPORTED: u8 = 9;
+
+pub const BAD_MESSAGE_LENGTH: u8 = 10;
+
+pub const NO_ROOM: u8 = 11;
+
+pub const BAD_FIELD: u8 = 12;
+
+// The longest slice that is read, and the longest message that is split off or written.
+pub const LIMIT: usize = 1_048_576;
+
+// A number of the list above and the place of the field at fault; both are 0 in a good answer.
+pub struct Refusal {
+    pub number: u8,
+    pub place: usize,
+}
+
+// A place and a length in a buffer.
+pub struct View {
+    pub place: usize,
+    pub length: usize,
+}
+
+// The place of the next byte to be read.
+pub struct Cursor {
+    pub at: usize,
+}
+
+pub enum ReadU8 {
+    Good(u8, Cursor),
+    Cut(Refusal),
+}
+
+pub enum ReadU16 {
+    Good(u16, Cursor),
+    Cut(Refusal),
+}
+
+pub enum ReadU32 {
+    Good(u32, Cursor),
+    Cut(Refusal),
+}
+
+pub enum ReadU64 {
+    Good(u64, Cursor),
+    Cut(Refusal),
+}
+
+// Every Cut is made here, so that a Cut that tells more changes one place.
+pub fn cut_at(place: usize) -> Refusal
+    ensures { λ r. ⌜ r ≡ cutAt place ⌝ }
+{
+    Refusal {
+        number: CUT,
+        place: place,
+    }
+}
+
+// How many bytes are left from a place on.
+pub fn left(s: &[u8], at: usize) -> usize
+    ensures { λ r. ⌜ r ≡ length (now (s .entry)) - at ⌝ }
+{
+    if at <= s.len() { s.len() - at } else { 0 }
+}
+
+// The big-endian number at a place, 0 where not all of its bytes are there.
+pub fn u8_at(s: &[u8], at: usize) -> u8
+    ensures { λ r. ⌜ r ≡ numberAt 1 (now (s .entry)) at ⌝ }
+{
+    if left(s, at) < 1 {
+        return 0;
+    }
+    s[at]
+}
+
+pub fn u16_at(s: &[u8], at: usize) -> u16
+    ensures { λ r. ⌜ r ≡ numberAt 2 (now (s .entry)) at ⌝ }
+{
+    if left(s, at) < 2 {
+        return 0;
+    }
+    (u8_at(s, at) as u16) * 256 + (u8_at(s, at + 1) as u16)
+}
+
+pub fn u32_at(s: &[u8], at: usize) -> u32
+    ensures { λ r. ⌜ r ≡ numberAt 4 (now (s .entry)) at ⌝ }
+{
+    if left(s, at) < 4 {
+        return 0;
+    }
+    (u16_at(s, at) as u32) * 65_536 + (u16_at(s, at + 2) as u32)
+}
+
+pub fn u64_at(s: &[u8], at: usize) -> u64
+    ensures { λ r. ⌜ r ≡ numberAt 8 (now (s .entry)) at ⌝ }
+{
+    if left(s, at) < 8 {
+        return 0;
+    }
+    (u32_at(s, at) as u64) * 4_294_967_296 + (u32_at(s, at + 4) as u64)
+}
+
+impl Cursor {
+    pub fn read_u8(self, s: &[u8]) -> ReadU8
+        ensures { λ r. ⌜ r ≡ asU8 (read 1 (now (s .entry)) (self .at)) ⌝ }
+    {
+        let at = self.at;
+        if left(s, at) < 1 {
+            return ReadU8::Cut(cut_at(at));
+        }
+        ReadU8::Good(u8_at(s, at), Cursor { at: at + 1 })
+    }
+
+    pub fn read_u16(self, s: &[u8]) -> ReadU16
+        ensures { λ r. ⌜ r ≡ asU16 (read 2 (now (s .entry)) (self .at)) ⌝ }
+    {
+        let at = self.at;
+        if left(s, at) < 2 {
+            return ReadU16::Cut(cut_at(at));
+        }
+        ReadU16::Good(u16_at(s, at), Cursor { at: at + 2 })
+    }
+
+    pub fn read_u32(self, s: &[u8]) -> ReadU32
+        ensures { λ r. ⌜ r ≡ asU32 (read 4 (now (s .entry)) (self .at)) ⌝ }
+    {
+        let at = self.at;
+        if left(s, at) < 4 {
+            return ReadU32::Cut(cut_at(at));
+        }
+        ReadU32::Good(u32_at(s, at), Cursor { at: at + 4 })
+    }
+
+    pub fn read_u64(self, s: &[u8]) -> ReadU64
+        ensures { λ r. ⌜ r ≡ asU64 (read 8 (now (s .entry)) (self .at)) ⌝ }
+    {
+        let at = self.at;
+        if left(s, at) < 8 {
+            return ReadU64::Cut(cut_at(at));
+        }
+        ReadU64::Good(u64_at(s, at), Cursor { at: at + 8 })
+    }
+}
+
+impl View {
+    // Whether the view lies inside a buffer of this length; the sum of place and length is never formed.
+    pub fn is_inside(self, length: usize) -> bool
+        ensures { λ r. ⌜ r ≡ inside length self ⌝ }
+    {
+        if length < self.length {
+            return false;
+        }
+        if length - self.length < self.place {
+            return false;
+        }
+        true
+    }
+
+    // The part of the buffer that the view shows, the empty part at the start where it lies outside.
+    pub fn part(self, buffer: &[u8]) -> &[u8]
+        ensures { λ r. ⌜ now r ≡ viewed (now (buffer .entry)) self ⌝ }
+    {
+        let place = self.place;
+        let length = self.length;
+        if buffer.len() < length {
+            return &buffer[0..0];
+        }
+        if buffer.len() - length < place {
+            return &buffer[0..0];
+        }
+        &buffer[place..place + length]
+    }
+}

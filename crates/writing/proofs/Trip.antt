@@ -1,0 +1,30 @@
+-- A table that was written and is read again: where each entry is shown as it was, all are. Assumes nothing.
+use mathlib.Core.Path.{_≡_, _∙_}
+use mathlib.Core.List.{List, [], _∷_, _++_}
+use mathlib.Core.Bool.{true}
+use Prim.Native.Nat.{ℕ, zero, suc, _+_, _<_}
+use native.Mathlib.Omega.{arith}
+use lib.ListN.{length, getD}
+use Rattle.wire.specs.Parts.{shownFrom, endFrom, AllAt}
+use Rattle.writing.specs.Table.{Writer, parts, allOk, sizes}
+use Rattle.writing.proofs.Table.{ok-head}
+
+module _ (W : Writer) (size : W .Item → ℕ) (entry : ℕ → W .Item → W .Entry) (Seen : ℕ → W .Item → Type 0) (b : List ℕ) where
+  -- S t u: the entry u shows what t shows
+  pub each-same : (S : W .Entry → W .Entry → Type 0) (d : W .Entry)
+      → ((n at : ℕ) (t : W .Entry) → W .ok (length b) n t ≡ true → Seen at (W .part b t) → S t (entry at (W .part b t)))
+      → (r k : List (W .Entry)) (at i : ℕ) → allOk W (length b) k ≡ true → AllAt size Seen at (parts W b k) → i < length k
+      → S (getD k i d) (getD (shownFrom size entry at (parts W b k) ++ r) i d)
+  each-same S d f r [] at i w v h = absurd (omega arith)
+  each-same S d f r (t ∷ k) at zero w v h = f (length k) at t (ok-head W (length b) t k w .0) (v .0)
+  each-same S d f r (t ∷ k) at (suc i) w v h =
+      each-same S d f r k (at + size (W .part b t)) i (ok-head W (length b) t k w .1) (v .1) (omega arith)
+
+  -- the reader's end is the written length
+  pub end-sizes : ((n : ℕ) (t : W .Entry) → W .ok (length b) n t ≡ true → size (W .part b t) ≡ W .size t)
+      → (k : List (W .Entry)) (at : ℕ) → allOk W (length b) k ≡ true → endFrom size at (parts W b k) ≡ at + sizes W k
+  end-sizes f [] at e = omega arith
+  end-sizes f (t ∷ k) at e =
+      let o = ok-head W (length b) t k e in
+      let n = f (length k) t (o .0) in
+      end-sizes f k (at + size (W .part b t)) (o .1) ∙ omega (arith, n)

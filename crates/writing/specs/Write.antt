@@ -1,0 +1,46 @@
+-- What every writer answers, and what stands in the output afterwards (docs/RULES.md, "Writers").
+use Prim.Native.Nat.{ℕ}
+use mathlib.Core.Bool.{Bool}
+use mathlib.Core.List.{List, _++_}
+use lib.ListN.{length, drop}
+use lib.Seq.{sets}
+use lib.Dec.{ltb}
+use Rattle.wire.specs.Number as Number
+use Rattle.wire.specs.Bytes.{pick, has, be}
+use Rattle.wire.specs.Read.{refusal, noRefusal}
+use Rattle.wire.specs.declared.Refusal.{Refusal}
+use Rattle.writing.specs.declared.WriteAnswer.{WriteAnswer}
+use Rattle.writing.specs.declared.WriteAnswer.the-variants.{Written, Refused}
+
+-- bytes put at a place: all of them or, where they do not fit, none
+abbrev pub putAt : List ℕ → ℕ → List ℕ → List ℕ
+putAt out at b = pick (has (length b) out at) (sets out at b) out
+
+-- each answer's refusal, and the length that it says was written
+abbrev pub refusalOf : WriteAnswer → Refusal
+refusalOf (Written n) = noRefusal
+refusalOf (Refused r) = r
+
+abbrev pub lengthOf : WriteAnswer → ℕ
+lengthOf (Written n) = n
+lengthOf (Refused r) = 0
+
+-- by whether the record is writable, the length that it would write and the room there is: BadField, then TooLong, then NoRoom
+abbrev pub writeAnswer : Bool → ℕ → ℕ → WriteAnswer
+writeAnswer ok n room =
+    pick ok
+    (pick (ltb Number.limit n) (Refused (refusal Number.TooLong 0))
+    (pick (ltb room n) (Refused (refusal Number.NoRoom 0)) (Written n)))
+    (Refused (refusal Number.BadField 0))
+
+-- the output afterwards: as it was where the writer refused, else the bytes s and behind them what stood there
+abbrev pub after : WriteAnswer → List ℕ → List ℕ → List ℕ
+after (Written n) s out = s ++ drop (length s) out
+after (Refused r) s out = out
+
+abbrev pub written : Bool → List ℕ → List ℕ → List ℕ
+written ok s out = after (writeAnswer ok (length s) (length out)) s out
+
+-- the bytes of a TLV: type, length, value
+abbrev pub tlvBytes : ℕ → ℕ → List ℕ → List ℕ
+tlvBytes kind size bytes = be 2 kind ++ (be 2 size ++ bytes)
