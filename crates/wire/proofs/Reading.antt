@@ -32,15 +32,15 @@ pub record Was (w : ℕ) (s : List ℕ) (at n : ℕ) (c : Cursor) : Type 0 where
   pub number : n ≡ numAt w s at
   pub next : c .at ≡ at + w
 
-pub was-got : (w : ℕ) (s : List ℕ) (at n : ℕ) (c : Cursor) → got n c ≡ read w s at → Was w s at n c
-was-got w s at n c e = go (has w s at) refl e
+pub was-got : (w : ℕ) (s : List ℕ) (at : ℕ) {x : Read} {n : ℕ} {c : Cursor} → x ≡ got n c → x ≡ read w s at → Was w s at n c
+was-got w s at {x} {n} {c} e f = go (has w s at) refl (sym e ∙ f)
   where
     go : (b : Bool) → has w s at ≡ b → got n c ≡ pick b (got (numAt w s at) (cursor (at + w))) (cut (cutAt at)) → Was w s at n c
     go true h q = record { left = leb-true w (length s - at) h; number = cc; next = cc }
     go false h q = let z : _≡_ {A = ℕ} 0 1 = cc in absurd (omega arith)
 
-pub was-cut : (w : ℕ) (s : List ℕ) (at : ℕ) (r : Refusal) → cut r ≡ read w s at → length s - at < w
-was-cut w s at r e = go (has w s at) refl e
+pub was-cut : (w : ℕ) (s : List ℕ) (at : ℕ) {x : Read} {r : Refusal} → x ≡ cut r → x ≡ read w s at → length s - at < w
+was-cut w s at {x} {r} e f = go (has w s at) refl (sym e ∙ f)
   where
     go : (b : Bool) → has w s at ≡ b → cut r ≡ pick b (got (numAt w s at) (cursor (at + w))) (cut (cutAt at)) → length s - at < w
     go true h q = let z : _≡_ {A = ℕ} 0 1 = cc in absurd (omega arith)

@@ -1,5 +1,6 @@
 -- Bytes put one after the other. Assumes nothing.
 use mathlib.Core.Path.{_≡_, refl, sym, ap, ap₂, _∙_}
+use mathlib.Core.Bool.{Bool, true, false}
 use mathlib.Core.List.{List, [], _∷_, _++_}
 use Prim.Native.Nat.{ℕ, suc, _+_, _-_, _/_, _%_, _^_, _≤_, _<_}
 use native.Mathlib.Omega.{arith}
@@ -8,7 +9,7 @@ use native.Mathlib.Numerals.{add-one}
 use borrow.Author.Tests.{le-leb, lt-leb}
 use lib.ListN.{length, take, set, getD, length-append}
 use lib.Seq.{sets, length-sets, take-suc, length-take-le}
-use Rattle.wire.specs.Bytes.{be}
+use Rattle.wire.specs.Bytes.{pick, has, be}
 use Rattle.writing.specs.Write.{putAt, tlvBytes}
 use Rattle.wire.proofs.Bytes.{length-be, be-split}
 
@@ -30,6 +31,13 @@ put-fits l at b h = rw (le-leb (length b) (length l - at) h)
 
 pub put-nothing : (l : List ℕ) (at : ℕ) (b : List ℕ) → length l - at < length b → putAt l at b ≡ l
 put-nothing l at b h = rw (lt-leb (length b) (length l - at) h)
+
+pub length-put : (l : List ℕ) (at : ℕ) (b : List ℕ) → length (putAt l at b) ≡ length l
+length-put l at b = go (has (length b) l at)
+  where
+    go : (c : Bool) → length (pick c (sets l at b) l) ≡ length l
+    go true = length-sets l at b
+    go false = refl
 
 -- two puts that fit, one after the other, put both
 pub put-then : (l p q : List ℕ) (at k : ℕ) (a b : List ℕ) → length a + length b ≤ length l - at

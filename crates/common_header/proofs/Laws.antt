@@ -1,0 +1,77 @@
+-- The reader and the grammar: an input taken apart and joined again, both ways. Assumes nothing.
+use mathlib.Core.Path.{_≡_, refl, sym, ap, _∙_}
+use mathlib.Core.Bool.{Bool, true, false}
+use mathlib.Core.List.{List, _++_}
+use Prim.Native.Nat.{ℕ, suc, _+_, _-_, _≤_, _<_}
+use native.Mathlib.Omega.{arith}
+use borrow.Author.Tests.{leb-true, ltb-true, ltb-false, eqb-true, le-ltb}
+use lib.Dec.{ltb, eqb, lit<}
+use lib.ListN.{length, drop}
+use Rattle.wire.specs.Number as Number
+use Rattle.wire.specs.Bytes.{pick, has, be, numAt, Bytes}
+use Rattle.wire.specs.Read.{refusal, cutAt}
+use Rattle.wire.proofs.Bytes.{value-be, num-lt, num-back, bytes-drop}
+use Rattle.common_header.specs.Grammar.{Reading, join, Good}
+use Rattle.common_header.specs.Shown.{shown, refusalOf}
+use Rattle.common_header.specs.Read.{partsOf, readFields, judged, readCommonHeader}
+use Rattle.common_header.specs.declared.CommonFields.{CommonFields}
+use Rattle.common_header.specs.declared.CommonHeaderAnswer.{CommonHeaderAnswer}
+use Rattle.common_header.proofs.Fields.{whole}
+
+-- ---- joined, then taken apart
+pub length-join : (r : Reading) → length (join r) ≡ 6 + length (r .tail)
+unfolding be
+length-join r = omega arith
+
+pub parts-join : (r : Reading) → Good r → partsOf (join r) ≡ r
+unfolding be
+parts-join r g =
+    let version-is : numAt 1 (join r) 0 ≡ r .version = value-be 1 (r .version) (rw (g .version-is) (lit< tt)) in
+    let length-is : numAt 4 (join r) 1 ≡ r .length = value-be 4 (r .length) (g .length-fits) in
+    let kind-is : numAt 1 (join r) 5 ≡ r .kind = value-be 1 (r .kind) (omega (arith, g .kind-known)) in
+    λ i. record { version = version-is i; length = length-is i; kind = kind-is i; tail = r .tail }
+
+-- ---- taken apart, then joined
+pub join-parts : {s : List ℕ} → Bytes s → 6 ≤ length s → join (partsOf s) ≡ s
+join-parts {s} p h = rw (num-back 1 5 p (omega arith), num-back 4 1 p (omega arith)) (num-back 1 0 p (omega arith))
+
+-- ---- what the reader accepts
+pub record Accepted (s : List ℕ) : Type 0 where
+  pub short : length s ≤ Number.limit
+  pub long : 6 ≤ length s
+  pub three : numAt 1 s 0 ≡ 3
+  pub known : numAt 1 s 5 ≤ 6
+
+pub accepted : (s : List ℕ) → refusalOf (readCommonHeader s) .number ≡ Number.Good → Accepted s
+unfolding readFields
+accepted s e =
+    go (ltb Number.limit (length s)) refl (has 1 s 0) refl (eqb (numAt 1 s 0) 3) refl (has 4 s 1) refl (has 1 s 5) refl (ltb 6 (numAt 1 s 5)) refl e
+  where
+    no : {k : ℕ} → suc k ≡ 0 → Accepted s
+    no q = absurd (omega arith)
+
+    go : (a : Bool) → ltb Number.limit (length s) ≡ a → (b : Bool) → has 1 s 0 ≡ b → (c : Bool) → eqb (numAt 1 s 0) 3 ≡ c
+        → (d : Bool) → has 4 s 1 ≡ d → (f : Bool) → has 1 s 5 ≡ f → (g : Bool) → ltb 6 (numAt 1 s 5) ≡ g
+        → refusalOf (pick a (CommonHeaderAnswer.Refused (refusal Number.TooLong 0)) (judged
+        (pick b (pick c (pick d (pick f (CommonFields.Whole (numAt 4 s 1) (numAt 1 s 5)) (CommonFields.Refused (cutAt 5))) (CommonFields.Refused (cutAt 1)))
+        (CommonFields.Refused (refusal Number.BadVersion 0))) (CommonFields.Refused (cutAt 0))))) .number ≡ Number.Good
+        → Accepted s
+    go true ha b hb c hc d hd f hf g hg q = no q
+    go false ha false hb c hc d hd f hf g hg q = no q
+    go false ha true hb false hc d hd f hf g hg q = no q
+    go false ha true hb true hc false hd f hf g hg q = no q
+    go false ha true hb true hc true hd false hf g hg q = no q
+    go false ha true hb true hc true hd true hf true hg q = no (rw hg at q)
+    go false ha true hb true hc true hd true hf false hg q =
+        let h = leb-true 1 (length s - 5) hf in
+        record { short = ltb-false Number.limit (length s) ha; long = omega arith; three = eqb-true (numAt 1 s 0) 3 hc; known = ltb-false 6 (numAt 1 s 5) hg }
+
+-- and how it shows it
+pub shows-parts : (s : List ℕ) → Accepted s → readCommonHeader s ≡ shown (partsOf s)
+shows-parts s a =
+    rw (
+      le-ltb Number.limit (length s) (a .short),
+      whole s (omega (arith, a .long)) (a .three) (omega (arith, a .long)) (omega (arith, a .long)),
+      le-ltb 6 (numAt 1 s 5) (a .known),
+      a .three,
+    )

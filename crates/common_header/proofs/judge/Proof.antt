@@ -1,0 +1,20 @@
+use borrow.Author.Needs.{needs}
+use borrow.Author.Tests.{lt-ltb, le-ltb}
+use mathlib.Core.Path.{sym, _∙_}
+use Rattle.common_header.proofs.judge.Statement.{statement}
+use Rattle.common_header.proofs.judge.Tie as tie
+
+refused-requires : tie.Need-refused-requires
+refused-requires c κs = search needs
+
+returns : tie.Need-returns
+returns c = c .refused .ensures ∙ sym (rw (lt-ltb _ _ (c .before .if1 .taken)))
+
+type-of-requires : tie.Need-type-of-requires
+type-of-requires c κs = search needs
+
+returns-2 : tie.Need-returns-2
+returns-2 c = sym (rw (le-ltb _ _ (c .before .if1 .left), ← c .type-of .ensures))
+
+pub judge-spec : {M : Type 1} → statement M
+judge-spec = tie.close (tie.spec refused-requires returns type-of-requires returns-2)

@@ -1,0 +1,163 @@
+// The common header of a BMP message (RFC 7854, section 4.1).
+use wire::Cursor;
+use wire::ReadU8;
+use wire::ReadU32;
+use wire::Refusal;
+use writing::WriteAnswer;
+ghost use mathlib.Core.Path.{_≡_};
+ghost use Prim.Native.Nat.{_≤_};
+ghost use lib.ListN.{length};
+ghost use lib.Seq.{sets};
+ghost use Rattle.wire.specs.Read.{refusal};
+ghost use Rattle.writing.specs.Write.{writeAnswer, written};
+ghost use Rattle.common_header.specs.declared.CommonFields.{CommonFields};
+ghost use Rattle.common_header.specs.declared.CommonHeaderAnswer.{CommonHeaderAnswer};
+ghost use Rattle.common_header.specs.Shown.{typeOf, kindOf};
+ghost use Rattle.common_header.specs.Read.{readFields, judged, readCommonHeader};
+ghost use Rattle.common_header.specs.Write.{writable, bytesOf};
+
+pub enum BmpMsgType {
+    RouteMonitoring,
+    StatisticsReport,
+    PeerDownNotification,
+    PeerUpNotification,
+    InitiationMessage,
+    TerminationMessage,
+    RouteMirroringMessage,
+}
+
+pub struct BmpCommonHeader {
+    pub version: u8,
+    pub msg_len: u32,
+    pub msg_type: BmpMsgType,
+}
+
+// The header and the place after it, or why there is none.
+pub enum CommonHeaderAnswer {
+    Good(BmpCommonHeader, usize),
+    Refused(Refusal),
+}
+
+// Length and type as they stand there: whether the type is known is not judged yet.
+enum CommonFields {
+    Whole(u32, u8),
+    Refused(Refusal),
+}
+
+pub fn parse_bmp_common_header(s: &[u8]) -> CommonHeaderAnswer
+    ensures { λ r. ⌜ r ≡ readCommonHeader (now (s .entry)) ⌝ }
+{
+    if wire::LIMIT < s.len() {
+        return refused(wire::TOO_LONG, 0);
+    }
+    match read_fields(s) {
+        CommonFields::Refused(refusal) => CommonHeaderAnswer::Refused(refusal),
+        CommonFields::Whole(msg_len, kind) => judge(msg_len, kind),
+    }
+}
+
+fn read_fields(s: &[u8]) -> CommonFields
+    ensures { λ r. ⌜ r ≡ readFields (now (s .entry)) ⌝ }
+{
+    let start = Cursor { at: 0 };
+    let ReadU8::Good(version, after_version) = start.read_u8(s) else {
+        return CommonFields::Refused(wire::cut_at(0));
+    };
+    if version != 3 {
+        return CommonFields::Refused(Refusal {
+            number: wire::BAD_VERSION,
+            place: 0,
+        });
+    }
+    let ReadU32::Good(msg_len, after_length) = after_version.read_u32(s) else {
+        return CommonFields::Refused(wire::cut_at(1));
+    };
+    let ReadU8::Good(kind, _) = after_length.read_u8(s) else {
+        return CommonFields::Refused(wire::cut_at(5));
+    };
+    CommonFields::Whole(msg_len, kind)
+}
+
+fn judge(msg_len: u32, kind: u8) -> CommonHeaderAnswer
+    ensures { λ r. ⌜ r ≡ judged (CommonFields.Whole «msg_len» kind) ⌝ }
+{
+    if 6 < kind {
+        return refused(wire::UNKNOWN_KIND, 5);
+    }
+    let header = BmpCommonHeader {
+        version: 3,
+        msg_len: msg_len,
+        msg_type: type_of(kind),
+    };
+    CommonHeaderAnswer::Good(header, 6)
+}
+
+fn refused(number: u8, place: usize) -> CommonHeaderAnswer
+    ensures { λ r. ⌜ r ≡ CommonHeaderAnswer.Refused (refusal number place) ⌝ }
+{
+    let refusal = Refusal {
+        number: number,
+        place: place,
+    };
+    CommonHeaderAnswer::Refused(refusal)
+}
+
+fn type_of(kind: u8) -> BmpMsgType
+    ensures { λ r. ⌜ r ≡ typeOf kind ⌝ }
+{
+    match kind {
+        0 => BmpMsgType::RouteMonitoring,
+        1 => BmpMsgType::StatisticsReport,
+        2 => BmpMsgType::PeerDownNotification,
+        3 => BmpMsgType::PeerUpNotification,
+        4 => BmpMsgType::InitiationMessage,
+        5 => BmpMsgType::TerminationMessage,
+        _ => BmpMsgType::RouteMirroringMessage,
+    }
+}
+
+pub fn write_bmp_common_header(header: BmpCommonHeader, out: &mut [u8]) -> WriteAnswer
+    ensures { λ r. ⌜ r ≡ writeAnswer (writable header) (length (bytesOf header)) (length (now (out .entry))) ⌝ }
+    ensures { λ _. ⌜ now (out .exit) ≡ written (writable header) (bytesOf header) (now (out .entry)) ⌝ }
+{
+    let answer = writing::write_answer(is_writable(header), 6, out.len());
+    let WriteAnswer::Written(_) = answer else {
+        return answer;
+    };
+    put_header(header, out);
+    answer
+}
+
+fn is_writable(header: BmpCommonHeader) -> bool
+    ensures { λ r. ⌜ r ≡ writable header ⌝ }
+{
+    if header.version != 3 {
+        return false;
+    }
+    true
+}
+
+fn put_header(header: BmpCommonHeader, out: &mut [u8])
+    requires { ⌜ 6 ≤ length (now out) ⌝ }
+    ensures { λ _. ⌜ now (out .exit) ≡ sets (now (out .entry)) 0 (bytesOf header) ⌝ }
+{
+    let msg_type = header.msg_type;
+    writing::put_u8(out, 0, header.version);
+    writing::put_u32(out, 1, header.msg_len);
+    writing::put_u8(out, 5, kind_of(msg_type));
+}
+
+// The number that stands for a type on the wire.
+fn kind_of(msg_type: BmpMsgType) -> u8
+    ensures { λ r. ⌜ r ≡ kindOf «msg_type» ⌝ }
+{
+    match msg_type {
+        BmpMsgType::RouteMonitoring => 0,
+        BmpMsgType::StatisticsReport => 1,
+        BmpMsgType::PeerDownNotification => 2,
+        BmpMsgType::PeerUpNotification => 3,
+        BmpMsgType::InitiationMessage => 4,
+        BmpMsgType::TerminationMessage => 5,
+        BmpMsgType::RouteMirroringMessage => 6,
+    }
+}

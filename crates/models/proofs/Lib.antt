@@ -1,0 +1,3 @@
+pub mod Equality
+pub mod Promises
+pub mod Specimens
