@@ -1,5 +1,6 @@
 pub mod Bytes
 pub mod Reading
 pub mod Views
+pub mod Tlv
 pub mod Walk
 pub mod Determined

@@ -77,3 +77,8 @@ front ok s out out′ r er eo w short fits =
       answer-is = e;
       bytes-are = rw (e, o) (take-at s (drop (length s) out) (length s) refl);
     }
+
+-- ---- a writer whose record is not ok
+pub refused-so : (ok : Bool) (s out : List ℕ) → ok ≡ false → (a : WriteAnswer) → a ≡ writeAnswer false 0 (length out)
+    → (a ≡ writeAnswer ok (length s) (length out)) × (out ≡ written ok s out)
+refused-so ok s out e a asked = (asked ∙ sym (rw e), rw e)

@@ -1,14 +1,16 @@
 -- What every writer answers, and what stands in the output afterwards (docs/RULES.md, "Writers").
-use Prim.Native.Nat.{ℕ}
-use mathlib.Core.Bool.{Bool}
+use Prim.Native.Nat.{ℕ, _^_}
+use mathlib.Core.Bool.{Bool, false}
 use mathlib.Core.List.{List, _++_}
 use lib.ListN.{length, drop}
 use lib.Seq.{sets}
-use lib.Dec.{ltb}
+use lib.Dec.{ltb, eqb}
 use Rattle.wire.specs.Number as Number
 use Rattle.wire.specs.Bytes.{pick, has, be}
 use Rattle.wire.specs.Read.{refusal, noRefusal}
+use Rattle.wire.specs.View.{inside}
 use Rattle.wire.specs.declared.Refusal.{Refusal}
+use Rattle.wire.specs.declared.View.{View}
 use Rattle.writing.specs.declared.WriteAnswer.{WriteAnswer}
 use Rattle.writing.specs.declared.WriteAnswer.the-variants.{Written, Refused}
 
@@ -44,3 +46,9 @@ written ok s out = after (writeAnswer ok (length s) (length out)) s out
 -- the bytes of a TLV: type, length, value
 abbrev pub tlvBytes : ℕ → ℕ → List ℕ → List ℕ
 tlvBytes kind size bytes = be 2 kind ++ (be 2 size ++ bytes)
+
+-- it can be written from a view of a buffer of this length: type and length fit two bytes, and the view has that length and lies
+-- inside the buffer
+unfoldable pub tlvFits : ℕ → ℕ → View → ℕ → Bool
+tlvFits kind size v room =
+    pick (ltb kind (256 ^ 2)) (pick (ltb size (256 ^ 2)) (pick (eqb (v .length) size) (inside room v) false) false) false

@@ -1,9 +1,10 @@
 // Writing bytes: what every writer of BMP shares.
 use wire::Refusal;
+use wire::View;
 ghost use mathlib.Core.Path.{_≡_};
 ghost use Rattle.wire.specs.Bytes.{be};
 ghost use Rattle.wire.specs.Read.{refusal};
-ghost use Rattle.writing.specs.Write.{putAt, tlvBytes, writeAnswer};
+ghost use Rattle.writing.specs.Write.{putAt, tlvBytes, tlvFits, writeAnswer};
 ghost use Rattle.writing.specs.declared.WriteAnswer.the-variants.{Refused};
 
 // What a writer answers: the length written, or why it wrote nothing.
@@ -74,6 +75,17 @@ pub fn put_tlv(out: &mut [u8], at: usize, kind: u16, size: u16, value: &[u8])
     put_u16(out, at, kind);
     put_u16(out, at + 2, size);
     put_bytes(out, at + 4, value);
+}
+
+// Whether a TLV can be written from a view of a buffer of length room. A two-byte type always can: it is asked for so that the
+// definition speaks of whole TLVs.
+pub fn tlv_fits(kind: u16, size: u16, view: View, room: usize) -> bool
+    ensures { λ r. ⌜ r ≡ tlvFits kind size view room ⌝ }
+{
+    if view.length != (size as usize) {
+        return false;
+    }
+    view.is_inside(room)
 }
 
 // A writer's answer by whether its record is writable, the length that it would write and the room there is.

@@ -1,0 +1,102 @@
+use borrow.Author.Needs.{needs}
+use native.Mathlib.Omega.{arith}
+use denote.Ref.{now}
+use borrow.Author.Tests.{lt-ltb, le-ltb}
+use mathlib.Core.Path.{_≡_, sym, _∙_}
+use Prim.Native.Nat.{_-_, _≤_}
+use lib.ListN.{length, drop}
+use native.Mathlib.Nat.{sub-zero}
+use Rattle.initiation_message.specs.Read.{kit, answer, readInitiation}
+use Rattle.initiation_message.specs.Shown.{places, zeroTable}
+use Rattle.initiation_message.proofs.Laws.{Onward, onward}
+use Rattle.initiation_message.proofs.Steps.{was-stop}
+use Rattle.wire.proofs.Walk.{resume-stop, onwards}
+use Rattle.writing.specs.Write.{after}
+use Rattle.initiation_message.proofs.parse_initiation_message.Statement.{statement}
+use Rattle.initiation_message.proofs.parse_initiation_message.Tie as tie
+use Rattle.wire.specs.Number as Number
+
+abbrev Inv-loop : tie.InvT-loop
+Inv-loop s tlvs₀ count₀ at₀ tlvs count at =
+    ((count ≤ at) × (at ≤ length s)) × ((count ≤ places) × (readInitiation s ≡ answer (onwards kit count at tlvs s)))
+
+abbrev μ-loop : tie.MeasureT-loop
+μ-loop s tlvs₀ count₀ at₀ tlvs count at =
+    length s - at
+
+-- after a whole TLV
+onward-at : (c : tie.After-known-told2 Inv-loop μ-loop)
+    → Onward (c .before .before .before .before .loop .count) (c .before .before .before .before .loop .at) (c .before .before .before .before .loop .tlvs) (now (c .before .before .before .before .before .before .before .before .args .s)) (c .before .tlv .given .0 .0) (c .before .tlv .given .0 .1 .0)
+onward-at c = onward _ _ _ _ _ _ (c .before .before .before .before .loop .inv .0 .0) (c .before .before .before .before .loop .inv .0 .1) (sym (c .before .before .before .step-at .ensures) ∙ c .before .tlv .given .1)
+
+refused-requires : tie.Need-refused-requires Inv-loop μ-loop
+refused-requires c κs = search needs
+
+returns : tie.Need-returns Inv-loop μ-loop
+returns c = rw (lt-ltb Number.limit (length (now (c .before .before .before .args .s))) (c .before .if1 .taken)) (c .refused .ensures)
+
+zero-tlv-requires : tie.Need-zero-tlv-requires Inv-loop μ-loop
+zero-tlv-requires c κs = search needs
+
+loop-holds : tie.Need-loop-holds Inv-loop μ-loop
+unfolding zeroTable
+loop-holds c = ((omega arith, omega arith), (omega arith, rw (c .zero-tlv .ensures, le-ltb Number.limit (length (now (c .before .before .before .args .s))) (c .before .if1 .left), sub-zero (length (now (c .before .before .before .args .s))))))
+
+step-at-requires : tie.Need-step-at-requires Inv-loop μ-loop
+step-at-requires c κs = search needs
+
+enum-known-place : tie.Need-enum-known-place Inv-loop μ-loop
+enum-known-place c = search needs
+
+enum-known-tlv : tie.Need-enum-known-tlv Inv-loop μ-loop
+enum-known-tlv c = search needs
+
+refused-requires-2 : tie.Need-refused-requires-2 Inv-loop μ-loop
+refused-requires-2 c κs = search needs
+
+returns-2 : tie.Need-returns-2 Inv-loop μ-loop
+returns-2 c = c .refused2 .ensures ∙ sym (c .before .before .before .before .before .before .loop .inv .1 .1 ∙ onward-at (c .before .before) .full (c .before .if2 .taken))
+
+mul-tlvs : tie.Need-mul-tlvs Inv-loop μ-loop
+mul-tlvs c = search needs
+
+array-set-from-tlvs : tie.Need-array-set-from-tlvs Inv-loop μ-loop
+array-set-from-tlvs c = search needs
+
+add-count : tie.Need-add-count Inv-loop μ-loop
+add-count c = search needs
+
+loop-less : tie.Need-loop-less Inv-loop μ-loop
+loop-less c = let o = onward-at (c .before) in omega arith
+
+loop-again : tie.Need-loop-again Inv-loop μ-loop
+loop-again c =
+    let o = onward-at (c .before) in
+    ((omega arith, o .within), (omega arith, c .before .before .before .before .before .loop .inv .1 .1 ∙ o .room (c .if2 .left)))
+
+returns-3 : tie.Need-returns-3 Inv-loop μ-loop
+returns-3 c =
+    let b = was-stop (c .before .before .before .before .loop .at) _ (drop (c .before .before .before .before .loop .at) (now (c .before .before .before .before .before .before .before .before .args .s))) (sym (c .before .before .before .step-at .ensures) ∙ c .before .place .given .1) in
+    rw (c .before .before .before .before .loop .inv .1 .1, resume-stop kit (c .before .before .before .before .loop .count) (c .before .before .before .before .loop .at) (c .before .before .before .before .loop .tlvs) (now (c .before .before .before .before .before .before .before .before .args .s)) (length (now (c .before .before .before .before .before .before .before .before .args .s)) - c .before .before .before .before .loop .count) (b .0), b .1)
+
+pub parse-initiation-message-spec : {M : Type 1} → statement M
+parse-initiation-message-spec =
+    tie.close
+    (tie.spec
+    Inv-loop
+    μ-loop
+    refused-requires
+    returns
+    zero-tlv-requires
+    loop-holds
+    step-at-requires
+    enum-known-place
+    enum-known-tlv
+    refused-requires-2
+    returns-2
+    mul-tlvs
+    array-set-from-tlvs
+    add-count
+    loop-less
+    loop-again
+    returns-3)

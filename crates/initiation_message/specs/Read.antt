@@ -1,0 +1,41 @@
+-- What the reader answers, for every input.
+use Prim.Native.Nat.{ℕ, _+_, _-_}
+use mathlib.Core.List.{List}
+use lib.ListN.{length, drop}
+use lib.Dec.{leb, ltb}
+use Rattle.wire.specs.Number as Number
+use Rattle.wire.specs.Bytes.{pick, numAt}
+use Rattle.wire.specs.Read.{refusal, cursor}
+use Rattle.wire.specs.Tlv.{Tlv, sizeOf, stopAt}
+use Rattle.wire.specs.TlvAt.{tlvOf, tailOf}
+use Rattle.wire.specs.Walk as Walk
+use Rattle.wire.specs.Walk.{stop, bad, item, Kit, Out, good, refused, readFrom}
+use Rattle.initiation_message.specs.Shown.{places, entry, zeroTlv, goodAnswer, refusedAnswer}
+use Rattle.initiation_message.specs.declared.InitiationTlv.{InitiationTlv}
+use Rattle.initiation_message.specs.declared.InitiationAnswer.{InitiationAnswer}
+use Rattle.initiation_message.specs.declared.Step.{Step}
+use Rattle.initiation_message.specs.declared.Step.the-variants.{Stop, Whole}
+
+-- while more than 4 bytes are left: a TLV that is all there, or the end
+unfoldable pub step : List ℕ → Walk.Step Tlv
+step s = pick (leb (length s) 4) stop (pick (ltb (length s - 4) (numAt 2 s 2)) stop (item (tlvOf s)))
+
+abbrev pub kit : Kit
+kit = record { Item = Tlv; Entry = InitiationTlv; step = step; size = sizeOf; entry = entry; none = zeroTlv; limit = places }
+
+-- one step at a place, as the code answers it: the stop, or the entry and the cursor past it; there is no fault
+abbrev pub told : ℕ → List ℕ → Walk.Step Tlv → Step
+told at s stop = Stop (stopAt at (tailOf s))
+told at s (bad r) = Stop 0
+told at s (item t) = Whole (entry at t) (cursor (at + sizeOf t))
+
+abbrev pub stepAt : List ℕ → ℕ → Step
+stepAt s at = told at (drop at s) (step (drop at s))
+
+abbrev pub answer : Out InitiationTlv → InitiationAnswer
+answer (good n at table z) = goodAnswer n at table (tailOf z)
+answer (refused r) = refusedAnswer r
+
+abbrev pub readInitiation : List ℕ → InitiationAnswer
+readInitiation s =
+    pick (ltb Number.limit (length s)) (refusedAnswer (refusal Number.TooLong 0)) (answer (readFrom kit (length s) 0 s))

@@ -1,0 +1,61 @@
+-- TLVs that can be written from a view. Assumes nothing.
+use mathlib.Core.Path.{_≡_, refl, sym, ap, _∙_}
+use mathlib.Core.Bool.{Bool, true, false}
+use mathlib.Core.List.{List}
+use Prim.Native.Nat.{ℕ, _+_, _^_, _≤_, _<_}
+use native.Mathlib.Omega.{arith}
+use borrow.Author.Tests.{leb-true, ltb-true, eqb-true, lt-ltb, eq-eqb}
+use lib.Dec.{ltb, eqb}
+use lib.ListN.{length, take, drop}
+use Rattle.wire.specs.Bytes.{pick, Bytes}
+use Rattle.wire.specs.View.{inside, viewed}
+use Rattle.wire.specs.Tlv.{Tlv, GoodTlv}
+use Rattle.wire.specs.declared.View.{View}
+use Rattle.wire.proofs.Bytes.{bytes-take, bytes-drop}
+use Rattle.wire.proofs.Views.{inside-is, viewed-inside, length-part}
+use Rattle.writing.specs.Write.{tlvFits}
+
+pub record TlvFits (kind size : ℕ) (v : View) (room : ℕ) : Type 0 where
+  pub kind-fits : kind < 256 ^ 2
+  pub size-fits : size < 256 ^ 2
+  pub view-is : v .length ≡ size
+  pub within : v .place + v .length ≤ room
+
+pub fits-of : (kind size : ℕ) (v : View) (room : ℕ) → tlvFits kind size v room ≡ true → TlvFits kind size v room
+unfolding tlvFits
+fits-of kind size v room e = go (ltb kind (256 ^ 2)) refl (ltb size (256 ^ 2)) refl (eqb (v .length) size) refl e
+  where
+    no : false ≡ true → TlvFits kind size v room
+    no q = let z : _≡_ {A = ℕ} 0 1 = cc in absurd (omega arith)
+
+    go : (a : Bool) → ltb kind (256 ^ 2) ≡ a → (b : Bool) → ltb size (256 ^ 2) ≡ b → (c : Bool) → eqb (v .length) size ≡ c
+        → pick a (pick b (pick c (inside room v) false) false) false ≡ true → TlvFits kind size v room
+    go false ha b hb c hc q = no q
+    go true ha false hb c hc q = no q
+    go true ha true hb false hc q = no q
+    go true ha true hb true hc q =
+        record {
+          kind-fits = ltb-true kind (256 ^ 2) ha;
+          size-fits = ltb-true size (256 ^ 2) hb;
+          view-is = eqb-true (v .length) size hc;
+          within = leb-true (v .place + v .length) room q;
+        }
+
+pub fits-from : (kind size : ℕ) (v : View) (room : ℕ) → TlvFits kind size v room → tlvFits kind size v room ≡ true
+unfolding tlvFits
+fits-from kind size v room f =
+    rw (lt-ltb kind (256 ^ 2) (f .kind-fits), lt-ltb size (256 ^ 2) (f .size-fits), eq-eqb (v .length) size (f .view-is)) (inside-is room v (f .within))
+
+-- its reading is a good TLV
+module _ (kind size : ℕ) (v : View) (b : List ℕ) (f : TlvFits kind size v (length b)) where
+  pub value-long : length (viewed b v) ≡ size
+  value-long = ap length (viewed-inside b v (f .within)) ∙ length-part b (v .place) (v .length) (f .within) ∙ f .view-is
+
+  pub tlv-good : Bytes b → GoodTlv (record { kind = kind; size = size; value = viewed b v })
+  tlv-good p =
+      record {
+        kind-fits = f .kind-fits;
+        size-fits = f .size-fits;
+        size-is = value-long;
+        value-bytes = rw (viewed-inside b v (f .within)) (bytes-take (v .length) (bytes-drop (v .place) p));
+      }
