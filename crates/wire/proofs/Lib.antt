@@ -3,3 +3,4 @@ pub mod Reading
 pub mod Views
 pub mod Walk
 pub mod Determined
+pub mod Promises
