@@ -1,16 +1,16 @@
 -- The reader and the grammar: an input taken apart and joined again, both ways. Assumes nothing.
-use mathlib.Core.Path.{_≡_, refl, sym, ap, _∙_}
+use mathlib.Core.Path.{_≡_, refl}
 use mathlib.Core.Bool.{Bool, true, false}
-use mathlib.Core.List.{List, _++_}
+use mathlib.Core.List.{List}
 use Prim.Native.Nat.{ℕ, suc, _+_, _-_, _≤_, _<_}
 use native.Mathlib.Omega.{arith}
-use borrow.Author.Tests.{leb-true, ltb-true, ltb-false, eqb-true, le-ltb}
+use borrow.Author.Tests.{leb-true, ltb-false, eqb-true, le-ltb}
 use lib.Dec.{ltb, eqb, lit<}
-use lib.ListN.{length, drop}
+use lib.ListN.{length}
 use Rattle.wire.specs.Number as Number
 use Rattle.wire.specs.Bytes.{pick, has, be, numAt, Bytes}
 use Rattle.wire.specs.Read.{refusal, cutAt}
-use Rattle.wire.proofs.Bytes.{value-be, num-lt, num-back, bytes-drop}
+use Rattle.wire.proofs.Bytes.{value-be, num-back}
 use Rattle.common_header.specs.Grammar.{Reading, join, Good}
 use Rattle.common_header.specs.Shown.{shown, refusalOf}
 use Rattle.common_header.specs.Read.{partsOf, readFields, judged, readCommonHeader}

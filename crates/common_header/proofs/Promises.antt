@@ -1,14 +1,14 @@
 -- What a user of the common header relies on. The header has no table, so every good reading fits. Assumes nothing.
 use mathlib.Core.Path.{_≡_, refl, sym, ap, _∙_, subst}
 use mathlib.Core.Bool.{Bool, true, false}
-use mathlib.Core.List.{List, []}
+use mathlib.Core.List.{List}
 use Prim.Native.Nat.{ℕ, _≤_, _<_, _^_}
 use native.Mathlib.Omega.{arith}
-use borrow.Author.Tests.{le-ltb, lt-ltb, ltb-true, ltb-false, eqb-true, eq-eqb}
+use borrow.Author.Tests.{lt-ltb, ltb-true, eqb-true, eq-eqb}
 use lib.Dec.{ltb, eqb}
 use lib.ListN.{length, take}
 use Rattle.wire.specs.Number as Number
-use Rattle.wire.specs.Bytes.{pick, numAt, Bytes, none}
+use Rattle.wire.specs.Bytes.{pick, Bytes, none}
 use Rattle.wire.proofs.Bytes.{num-lt, bytes-drop, bytes-be, bytes-append}
 use Rattle.wire.proofs.Determined.{determined}
 use Rattle.writing.specs.Write.{lengthOf, writeAnswer, written}

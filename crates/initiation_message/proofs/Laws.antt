@@ -1,12 +1,11 @@
 -- What the walk kit asks of an Initiation body. Assumes nothing.
-use mathlib.Core.Path.{_≡_, sym, ap, _∙_, subst}
+use mathlib.Core.Path.{_≡_, ap, _∙_, subst}
 use mathlib.Core.List.{List, []}
 use mathlib.Core.Logic.{inl}
 use Prim.Native.Nat.{ℕ, _+_, _≤_, _<_}
 use native.Mathlib.Omega.{arith}
 use lib.ListN.{length, drop, set}
 use Rattle.wire.specs.Number as Number
-use Rattle.wire.specs.Bytes.{Bytes}
 use Rattle.wire.specs.Read.{refusal}
 use Rattle.wire.specs.Tlv.{Tlv, putTlv, sizeOf, Tail, putTail, GoodTail}
 use Rattle.wire.specs.TlvAt.{tlvOf, tailOf}
@@ -16,7 +15,7 @@ use Rattle.wire.proofs.Tlv.{tlv-there, tlv-join, tlv-rest, tlv-parts, tail-none
 use Rattle.wire.proofs.Walk.{Takes, Faults, Laws, Tails, onwards, turn}
 use Rattle.initiation_message.specs.Grammar.{ReadTlv}
 use Rattle.initiation_message.specs.Shown.{refusedAnswer, places}
-use Rattle.initiation_message.specs.Read.{step, stepAt, kit, answer}
+use Rattle.initiation_message.specs.Read.{stepAt, kit, answer}
 use Rattle.initiation_message.specs.declared.InitiationTlv.{InitiationTlv}
 use Rattle.initiation_message.specs.declared.Step.the-variants.{Whole}
 use Rattle.initiation_message.proofs.Steps.{none, whole, see, of, found, stopped, no-fault, was-whole}

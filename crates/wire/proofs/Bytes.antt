@@ -1,6 +1,5 @@
 -- The laws of big-endian numbers, each over every width. Assumes nothing.
 use mathlib.Core.Path.{_≡_, refl, sym, ap, ap₂, _∙_, subst}
-use mathlib.Core.Bool.{Bool, true, false}
 use mathlib.Core.List.{List, [], _∷_, _++_}
 use Prim.Native.Nat.{ℕ, zero, suc, _+_, _-_, _*_, _/_, _%_, _^_, _≤_, _<_}
 use native.Mathlib.Nat.{pow-succ', one-le-pow, mod-lt, mod-eq-of-lt, div-add-mod', div-lt-iff-lt-mul, lt-of-lt-of-le, pow-le-pow-right}
@@ -11,7 +10,7 @@ use lib.Pow.{pow-add}
 use lib.Dec.{lit<}
 use lib.ListN.{length, take, drop, getD, length-append, length-take, length-drop, take-append-drop}
 use lib.Seq.{drop-cons, take-add, drop-drop, length-take-le}
-use Rattle.wire.specs.Bytes.{pick, be, value, Bytes, none, more, numAt, has, numberAt}
+use Rattle.wire.specs.Bytes.{be, value, Bytes, none, more, numAt, numberAt}
 
 positive : (w : ℕ) → 0 < 256 ^ w
 positive w = one-le-pow w 256 (lit< tt)

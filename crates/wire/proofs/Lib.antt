@@ -4,3 +4,4 @@ pub mod Views
 pub mod Tlv
 pub mod Walk
 pub mod Determined
+pub mod Promises

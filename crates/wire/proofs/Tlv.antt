@@ -1,6 +1,6 @@
 -- TLVs and tails, joined and taken apart, both ways. Assumes nothing.
 use mathlib.Core.Path.{_≡_, refl, sym, ap, _∙_}
-use mathlib.Core.List.{List, _++_}
+use mathlib.Core.List.{List}
 use mathlib.Core.Logic.{_⊎_, inl, inr}
 use Prim.Native.Nat.{ℕ, _+_, _-_, _≤_, _<_}
 use native.Mathlib.Omega.{arith}
@@ -9,7 +9,7 @@ use lib.ListN.{length, take, drop, length-append, length-drop}
 use lib.Seq.{take-at, drop-at, drop-drop, length-take-le}
 use Rattle.wire.specs.Bytes.{be, value, numAt, Bytes}
 use Rattle.wire.specs.View.{view, viewed}
-use Rattle.wire.specs.Tlv.{Tlv, putTlv, sizeOf, GoodTlv, Tail, short, oversized, putTail, Oversized, GoodTail}
+use Rattle.wire.specs.Tlv.{Tlv, putTlv, sizeOf, GoodTlv, Tail, short, oversized, putTail, GoodTail}
 use Rattle.wire.specs.TlvAt.{tlvOf, tailOf}
 use Rattle.wire.proofs.Bytes.{value-be, num-lt, num-back, part-back, bytes-take, bytes-drop}
 use Rattle.wire.proofs.Views.{viewed-part}

@@ -1,15 +1,15 @@
 -- TLVs that can be written from a view. Assumes nothing.
-use mathlib.Core.Path.{_≡_, refl, sym, ap, _∙_}
+use mathlib.Core.Path.{_≡_, refl, ap, _∙_}
 use mathlib.Core.Bool.{Bool, true, false}
 use mathlib.Core.List.{List}
 use Prim.Native.Nat.{ℕ, _+_, _^_, _≤_, _<_}
 use native.Mathlib.Omega.{arith}
 use borrow.Author.Tests.{leb-true, ltb-true, eqb-true, lt-ltb, eq-eqb}
 use lib.Dec.{ltb, eqb}
-use lib.ListN.{length, take, drop}
+use lib.ListN.{length}
 use Rattle.wire.specs.Bytes.{pick, Bytes}
 use Rattle.wire.specs.View.{inside, viewed}
-use Rattle.wire.specs.Tlv.{Tlv, GoodTlv}
+use Rattle.wire.specs.Tlv.{GoodTlv}
 use Rattle.wire.specs.declared.View.{View}
 use Rattle.wire.proofs.Bytes.{bytes-take, bytes-drop}
 use Rattle.wire.proofs.Views.{inside-is, viewed-inside, length-part}

@@ -11,7 +11,6 @@ use Rattle.writing.proofs.Answers.{answered, left-alone, wrote, put-there}
 use Rattle.common_header.proofs.write_bmp_common_header.Statement.{statement}
 use Rattle.common_header.proofs.write_bmp_common_header.Tie as tie
 use Rattle.common_header.specs.declared.BmpCommonHeader.{BmpCommonHeader}
-use Rattle.writing.specs.declared.WriteAnswer.{WriteAnswer}
 
 asked : (c : tie.After-write-answer) → c .write-answer .result ≡ writeAnswer (writable (c .before .before .before .args .header)) 6 (length (now (c .before .before .before .args .out)))
 asked c = c .write-answer .ensures ∙ ap (λ (b : Bool). writeAnswer b 6 (length (now (c .before .before .before .args .out)))) (c .before .is-writable .ensures)

@@ -11,7 +11,6 @@ use Rattle.initiation_message.specs.Shown.{places, zeroTable}
 use Rattle.initiation_message.proofs.Laws.{Onward, onward}
 use Rattle.initiation_message.proofs.Steps.{was-stop}
 use Rattle.wire.proofs.Walk.{resume-stop, onwards}
-use Rattle.writing.specs.Write.{after}
 use Rattle.initiation_message.proofs.parse_initiation_message.Statement.{statement}
 use Rattle.initiation_message.proofs.parse_initiation_message.Tie as tie
 use Rattle.wire.specs.Number as Number
