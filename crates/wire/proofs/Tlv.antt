@@ -14,11 +14,14 @@ use Rattle.wire.specs.TlvAt.{tlvOf, tailOf}
 use Rattle.wire.proofs.Bytes.{value-be, num-lt, num-back, part-back, bytes-take, bytes-drop}
 use Rattle.wire.proofs.Views.{viewed-part}
 
+pub put-tlv-long : (t : Tlv) (r : List ℕ) → length (putTlv t r) ≡ 4 + length (t .value) + length r
+unfolding be
+put-tlv-long t r = omega (arith, length-append (t .value) r)
+
 -- ---- a good TLV in front of the bytes r
 module _ (t : Tlv) (r : List ℕ) (g : GoodTlv t) where
   pub tlv-length : length (putTlv t r) ≡ sizeOf t + length r
-  unfolding be
-  tlv-length = omega (arith, length-append (t .value) r, g .size-is)
+  tlv-length = omega (arith, put-tlv-long t r, g .size-is)
 
   tlv-size : numAt 2 (putTlv t r) 2 ≡ t .size
   unfolding be

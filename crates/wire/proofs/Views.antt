@@ -7,9 +7,10 @@ use native.Mathlib.Omega.{arith}
 use borrow.Author.Tests.{le-leb, lt-leb, leb-false}
 use lib.ListN.{length, take, drop, length-take, length-drop}
 use lib.Seq.{length-take-le}
-use Rattle.wire.specs.Bytes.{pick}
+use Rattle.wire.specs.Bytes.{pick, Bytes, none}
 use Rattle.wire.specs.View.{inside, viewed}
 use Rattle.wire.specs.declared.View.{View}
+use Rattle.wire.proofs.Bytes.{bytes-take, bytes-drop}
 
 pub inside-is : (room : ℕ) (v : View) → v .place + v .length ≤ room → inside room v ≡ true
 inside-is room v h = le-leb (v .place + v .length) room h
@@ -39,3 +40,10 @@ viewed-part b v e = go (inside (length b) v) refl
         let x = leb-false (v .place + v .length) (length b) h in
         let z : v .length ≡ 0 = omega arith in
         rw z
+
+pub bytes-viewed : (b : List ℕ) (v : View) → Bytes b → Bytes (viewed b v)
+bytes-viewed b v p = go (inside (length b) v)
+  where
+    go : (c : Bool) → Bytes (pick c (take (v .length) (drop (v .place) b)) [])
+    go true = bytes-take (v .length) (bytes-drop (v .place) p)
+    go false = none

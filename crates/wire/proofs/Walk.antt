@@ -18,6 +18,10 @@ use Rattle.wire.specs.Walk.{Step, stop, bad, item, End, tail, fault, Wal
 use Rattle.wire.specs.declared.Refusal.{Refusal}
 use Rattle.wire.proofs.Bytes.{bytes-drop}
 
+empty : (x : List ℕ) → length x ≤ 0 → x ≡ []
+empty [] h = refl
+empty (b ∷ x) h = absurd (omega arith)
+
 -- ---- one turn of a reader's loop, which has n items in its table and may find f more
 walk-suc : (K : Kit) (f : ℕ) (s : List ℕ) → walk K (suc f) s ≡ next (K .step s) s (λ a. walk K f (drop (K .size a) s))
 unfolding walk
@@ -254,10 +258,6 @@ module _ (K : Kit) {put : K .Item → List ℕ → List ℕ} {G : K .Item → Li
       let halt : K .step z ≡ stop = ⊎-elim (λ h. h) (λ h. subst (λ (x : List ℕ). K .step x ≡ stop) (sym (empty z (omega arith))) (tails .nil)) (y .ended) in
       let t = tails .stops z (y .are-bytes) halt in
       (w .items, tails .tailOf z, read-complete at s (w .items) (tails .tailOf z) (rw (t .1) (y .each)) (t .0) (rw (t .1) (y .joined)) (omega arith))
-    where
-      empty : (x : List ℕ) → length x ≤ 0 → x ≡ []
-      empty [] h = refl
-      empty (b ∷ x) h = absurd (omega arith)
 
   -- two good readings with equal joins are equal
   pub unique : (l k : List (K .Item)) (t u : Tail) → EachGood put G l (putTail t) → GoodTail t → EachGood put G k (putTail u) → GoodTail u
@@ -280,3 +280,14 @@ each-at K {put} laws P s h (a ∷ l) z at g e = (
   each-at K laws P s h l z (at + K .size a) (g .1)
       (sym (laws .forth a (joinAll put l z) (g .0) .1) ∙ ap (drop (K .size a)) e ∙ drop-drop (K .size a) at s),
 )
+
+-- ---- where items and a tail join to the bytes of the items alone, there is no tail
+module _ {A : Type 0} (put : A → List ℕ → List ℕ) (long : A → ℕ) (put-long : (a : A) (r : List ℕ) → length (put a r) ≡ long a + length r) where
+  join-length : (l : List A) (z : List ℕ) → length (joinAll put l z) ≡ length (joinAll put l []) + length z
+  join-length [] z = omega arith
+  join-length (a ∷ l) z =
+      let i = join-length l z in
+      omega (arith, put-long a (joinAll put l z), put-long a (joinAll put l []), i)
+
+  pub no-tail : (l : List A) (z : List ℕ) → joinAll put l z ≡ joinAll put l [] → z ≡ []
+  no-tail l z e = empty z (omega (arith, join-length l z, ap length e))

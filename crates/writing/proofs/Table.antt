@@ -30,6 +30,13 @@ here table n i d few h =
 pub done : {A : Type 0} (table : List A) (n i : ℕ) → n ≤ i → drop i (take n table) ≡ []
 done table n i h = let e = length-take n table in drop-of-length-le (take n table) {i = i} (omega arith)
 
+-- an index into the first n is one into the table
+pub kept-below : {A : Type 0} (table : List A) (n i : ℕ) → i < length (take n table) → i < n
+kept-below table n i h = omega (arith, h, length-take n table)
+
+pub kept-at : {A : Type 0} (table : List A) (n i : ℕ) (d : A) → i < length (take n table) → getD (take n table) i d ≡ getD table i d
+kept-at table n i d h = getD-take n table i d (kept-below table n i h)
+
 module _ (W : Writer) where
   -- ---- judged: the entries from i on decide
   module _ (table : List (W .Entry)) (n i : ℕ) (t : W .Entry) (a : At table n i t) (room : ℕ) (w : Bool) (so-far : w ≡ allOk W room (drop i (take n table))) where

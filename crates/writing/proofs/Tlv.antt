@@ -11,8 +11,7 @@ use Rattle.wire.specs.Bytes.{pick, Bytes}
 use Rattle.wire.specs.View.{inside, viewed}
 use Rattle.wire.specs.Tlv.{GoodTlv}
 use Rattle.wire.specs.declared.View.{View}
-use Rattle.wire.proofs.Bytes.{bytes-take, bytes-drop}
-use Rattle.wire.proofs.Views.{inside-is, viewed-inside, length-part}
+use Rattle.wire.proofs.Views.{inside-is, viewed-inside, length-part, bytes-viewed}
 use Rattle.writing.specs.Write.{tlvFits}
 
 pub record TlvFits (kind size : ℕ) (v : View) (room : ℕ) : Type 0 where
@@ -57,5 +56,5 @@ module _ (kind size : ℕ) (v : View) (b : List ℕ) (f : TlvFits kind size v (l
         kind-fits = f .kind-fits;
         size-fits = f .size-fits;
         size-is = value-long;
-        value-bytes = rw (viewed-inside b v (f .within)) (bytes-take (v .length) (bytes-drop (v .place) p));
+        value-bytes = bytes-viewed b v p;
       }

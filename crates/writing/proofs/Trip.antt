@@ -1,5 +1,5 @@
 -- A table that was written and is read again: where each entry is shown as it was, all are. Assumes nothing.
-use mathlib.Core.Path.{_≡_, _∙_}
+use mathlib.Core.Path.{_≡_, refl, ap₂, _∙_}
 use mathlib.Core.List.{List, [], _∷_, _++_}
 use mathlib.Core.Bool.{true}
 use Prim.Native.Nat.{ℕ, zero, suc, _+_, _<_}
@@ -28,3 +28,16 @@ module _ (W : Writer) (size : W .Item → ℕ) (entry : ℕ → W .Item → W .E
       let o = ok-head W (length b) t k e in
       let n = f (length k) t (o .0) in
       end-sizes f k (at + size (W .part b t)) (o .1) ∙ omega (arith, n)
+
+  -- the other way: items that are shown as entries are those entries' items, where each is
+  pub parts-back : (S : W .Entry → W .Entry → Type 0) (d : W .Entry)
+      → ((at : ℕ) (x : W .Item) (t : W .Entry) → Seen at x → S t (entry at x) → x ≡ W .part b t)
+      → (r k : List (W .Entry)) (l : List (W .Item)) (at : ℕ) → length k ≡ length l → AllAt size Seen at l
+      → ((i : ℕ) → i < length k → S (getD k i d) (getD (shownFrom size entry at l ++ r) i d))
+      → l ≡ parts W b k
+  parts-back S d f r [] [] at n v h = refl
+  parts-back S d f r [] (x ∷ l) at n v h = absurd (omega arith)
+  parts-back S d f r (t ∷ k) [] at n v h = absurd (omega arith)
+  parts-back S d f r (t ∷ k) (x ∷ l) at n v h =
+      ap₂ _∷_ (f at x t (v .0) (h 0 (omega arith)))
+      (parts-back S d f r k l (at + size x) (omega arith) (v .1) (λ i e. h (suc i) (omega arith)))

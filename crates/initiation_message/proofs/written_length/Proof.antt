@@ -3,6 +3,7 @@ use native.Mathlib.Omega.{arith}
 use mathlib.Core.Path.{_≡_, ap, _∙_}
 use Prim.Native.Nat.{ℕ, _+_, _-_, _*_, _≤_}
 use lib.ListN.{length, drop}
+use Rattle.initiation_message.specs.Shown.{zeroTlv}
 use Rattle.initiation_message.specs.Write.{writer, kept}
 use Rattle.initiation_message.proofs.Written.{table-long}
 use Rattle.writing.specs.Table.{sizes}
@@ -42,8 +43,8 @@ loop-less c = search needs
 loop-again : tie.Need-loop-again Inv-loop μ-loop
 loop-again c =
     let long = table-long (c .before .before .before .before .args .t1) _ (c .before .before .before .before .good .0) in
-    let s = sum-here writer (c .before .before .before .before .args .t1 .tlvs) _ _ _ (here _ (c .before .before .before .before .args .t1 .count) (c .before .before .before .loop .i) _ (omega (arith, long, c .before .before .before .before .pre)) (c .before .before .loop-test .taken)) (c .before .before .before .loop .length) _ (c .before .before .before .loop .inv .1) in
-    ((omega arith, omega arith), ap (λ (k : ℕ). c .before .before .before .loop .length + k + sizes writer (drop (c .before .before .before .loop .i + 1) (kept (c .before .before .before .before .args .t1)))) (c .tlv-length .ensures .0) ∙ s)
+    let here-it = here (c .before .before .before .before .args .t1 .tlvs) (c .before .before .before .before .args .t1 .count) (c .before .before .before .loop .i) zeroTlv (omega (arith, long, c .before .before .before .before .pre)) (c .before .before .loop-test .taken) in
+    ((omega arith, omega arith), ap (λ (k : ℕ). c .before .before .before .loop .length + k + sizes writer (drop (c .before .before .before .loop .i + 1) (kept (c .before .before .before .before .args .t1)))) (c .tlv-length .ensures .0) ∙ sum-here writer (c .before .before .before .before .args .t1 .tlvs) _ _ _ here-it (c .before .before .before .loop .length) _ (c .before .before .before .loop .inv .1))
 
 returns : tie.Need-returns Inv-loop μ-loop
 returns c =

@@ -1,0 +1,81 @@
+-- A record that was written and is read again. Assumes nothing.
+use mathlib.Core.Path.{_≡_, refl, sym, ap, _∙_, subst}
+use mathlib.Core.Bool.{true}
+use mathlib.Core.List.{List, [], _∷_}
+use Prim.Native.Nat.{ℕ, zero, suc, _≤_}
+use native.Mathlib.Omega.{arith}
+use lib.ListN.{length, getD}
+use lib.Seq.{getD-take, length-take-le}
+use Rattle.wire.specs.Number as Number
+use Rattle.wire.specs.Bytes.{Bytes, none}
+use Rattle.wire.specs.Parts.{AllAt}
+use Rattle.wire.specs.Tlv.{sizeOf}
+use Rattle.wire.proofs.Tlv.{tlv-length}
+use Rattle.writing.specs.Table.{joined, allOk, sizes}
+use Rattle.writing.proofs.Tlv.{tlv-good}
+use Rattle.writing.proofs.Table.{length-joined, all-good, length-parts}
+use Rattle.writing.proofs.Trip.{each-same, end-sizes}
+use Rattle.initiation_message.specs.Grammar.{ReadTlv, Good}
+use Rattle.initiation_message.specs.Shown.{typeOf, kindOf, zeroTlv, places, entry, shown}
+use Rattle.initiation_message.specs.Read.{readInitiation}
+use Rattle.initiation_message.specs.Write.{partOf, tlvWritable, writer, kept, readingOf, bytesOf, SameTlv, Same}
+use Rattle.initiation_message.specs.declared.InitiationTlv.{InitiationTlv}
+use Rattle.initiation_message.specs.declared.InitiationMessage.{InitiationMessage}
+use Rattle.initiation_message.specs.declared.InitiationAnswer.{InitiationAnswer}
+use Rattle.initiation_message.proofs.Written.{fine-of, bodied, Writes}
+use Rattle.initiation_message.proofs.Shows.{ViewAt}
+
+length-sizes : (l : List InitiationTlv) → length l ≤ sizes writer l
+length-sizes [] = omega arith
+length-sizes (t ∷ l) = let h = length-sizes l in omega arith
+
+read-tlv : (b : List ℕ) → Bytes b → (t : InitiationTlv) (l : List InitiationTlv) → tlvWritable (length b) (length l) t ≡ true → allOk writer (length b) l ≡ true
+    → ReadTlv (partOf b t) (joined writer b l)
+read-tlv b p t l e w =
+    let f = fine-of (length b) (length l) t e in
+    let g = tlv-good _ _ _ b (f .fits) p in
+    record {
+      well-formed = g;
+      more-than-four = omega (arith, tlv-length (partOf b t) (joined writer b l) g, length-joined writer bodied b l w, length-sizes l, f .not-last-empty);
+    }
+
+pub good-of : (m : InitiationMessage) (b : List ℕ) → Bytes b → allOk writer (length b) (kept m) ≡ true → Good (readingOf m b)
+good-of m b p e = record { each = all-good writer ReadTlv b (read-tlv b p) (kept m) e; tail-good = (omega arith, none) }
+
+pub kindOf-typeOf : (n : ℕ) → kindOf (typeOf n) ≡ n
+unfolding typeOf kindOf
+kindOf-typeOf zero = refl
+kindOf-typeOf (suc zero) = refl
+kindOf-typeOf (suc (suc zero)) = refl
+kindOf-typeOf (suc (suc (suc zero))) = refl
+kindOf-typeOf (suc (suc (suc (suc zero)))) = refl
+kindOf-typeOf (suc (suc (suc (suc (suc n))))) = refl
+
+same-tlv : (b s : List ℕ) (n at : ℕ) (t : InitiationTlv) → tlvWritable (length b) n t ≡ true → ViewAt s at (partOf b t) → SameTlv t b (entry at (partOf b t)) s
+same-tlv b s n at t o v = record { kind-same = sym (kindOf-typeOf (kindOf (t .«info_type»))); len-same = refl; bytes-same = sym v }
+
+-- the bytes s are read as the record m, whose views point into b, to their end
+pub record ReadsBack (m : InitiationMessage) (b s : List ℕ) : Type 0 where
+  pub read-good : readInitiation s .refusal .number ≡ Number.Good
+  pub whole : readInitiation s .stop ≡ length s
+  pub same : Same m b (readInitiation s .message) s
+
+pub reads-back : (m : InitiationMessage) (b : List ℕ) → length (m .tlvs) ≡ places → Writes m (length b)
+    → readInitiation (bytesOf m b) ≡ shown (readingOf m b) → AllAt sizeOf (ViewAt (bytesOf m b)) 0 (readingOf m b .tlvs)
+    → ReadsBack m b (bytesOf m b)
+reads-back m b long x a v =
+    let s = bytesOf m b in
+    let k : length (kept m) ≡ m .count = length-take-le (m .count) (m .tlvs) (omega (arith, long, x .few)) in
+    let n : length (readingOf m b .tlvs) ≡ m .count = length-parts writer b (kept m) ∙ k in
+    record {
+      read-good = ap (λ (y : InitiationAnswer). y .refusal .number) a;
+      whole = ap (λ (y : InitiationAnswer). y .stop) a ∙ end-sizes writer sizeOf entry (ViewAt s) b (λ n t o. refl) (kept m) 0 (x .fine)
+          ∙ omega (arith, length-joined writer bodied b (kept m) (x .fine));
+      same = subst (λ (y : InitiationAnswer). Same m b (y .message) s) (sym a) (record {
+        count-same = sym n;
+        tlv-same = λ i h.
+            subst (λ (t : InitiationTlv). SameTlv t b (getD (shown (readingOf m b) .message .tlvs) i zeroTlv) s)
+            (getD-take (m .count) (m .tlvs) i zeroTlv h)
+            (each-same writer sizeOf entry (ViewAt s) b (λ t u. SameTlv t b u s) zeroTlv (same-tlv b s) _ (kept m) 0 i (x .fine) v (omega (arith, k, h)));
+      });
+    }
