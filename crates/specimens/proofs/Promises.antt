@@ -1,0 +1,22 @@
+-- Every specimen is answered as it must be. Assumes nothing.
+use mathlib.Core.List.{List, map}
+use mathlib.Core.Path.{_≡_, refl}
+use Rattle.wire.specs.Bytes.{value}
+use Rattle.wire.specs.Walk.{walk, fill}
+use Rattle.common_header.specs.Shown as Common
+use Rattle.common_header.specs.Read.{readFields}
+use Rattle.initiation_message.specs.Shown as Initiation
+use Rattle.initiation_message.specs.Read.{step}
+use Rattle.specimens.specs.Told.{Told, told}
+use Rattle.specimens.specs.List.{Specimen, specimens}
+
+abbrev answered : Specimen → Told
+answered x = told (x .reader) (x .bytes)
+
+abbrev expected : Specimen → Told
+expected x = x .answer
+
+-- One theorem over the whole list.
+pub specimens-hold : map answered specimens ≡ map expected specimens
+unfolding value walk fill readFields Common.typeOf Common.kindOf step Initiation.typeOf Initiation.kindOf Initiation.zeroTable
+specimens-hold = refl

@@ -1,0 +1,35 @@
+-- The examples: a reader, the bytes that it is given, and what it must answer.
+use Prim.Native.Nat.{ℕ}
+use mathlib.Core.List.{List, [], _∷_}
+use Rattle.wire.specs.Number as Number
+use Rattle.specimens.specs.Told.{Told, number, Reader, common, initiation}
+
+pub record Specimen : Type 0 where
+  pub reader : Reader
+  pub bytes : List ℕ
+  pub answer : Told
+
+-- a good answer, by its stop, the tail's start and the fields
+abbrev pub good : ℕ → ℕ → List (List ℕ) → Told
+good stop tail fields = record { number = Number.Good; place = 0; stop = stop; tail = tail; fields = fields }
+
+-- a refusal, by its number and place, with the fields of an all-zero record
+abbrev pub refused : ℕ → ℕ → List (List ℕ) → Told
+refused n p zero-fields = record { number = n; place = p; stop = 0; tail = 0; fields = zero-fields }
+
+abbrev pub zeroCommon : List (List ℕ)
+zeroCommon = number 0 ∷ number 0 ∷ number 0 ∷ []
+
+abbrev pub specimens : List Specimen
+specimens =
+    -- 03 00000006 04: length 6, type 4
+    record { reader = common; bytes = 3 ∷ 0 ∷ 0 ∷ 0 ∷ 6 ∷ 4 ∷ []; answer = good 6 6 (number 3 ∷ number 6 ∷ number 4 ∷ []) }
+    -- 03 00000006 07: no such type
+    ∷ record { reader = common; bytes = 3 ∷ 0 ∷ 0 ∷ 0 ∷ 6 ∷ 7 ∷ []; answer = refused Number.UnknownKind 5 zeroCommon }
+    -- nothing at all
+    ∷ record { reader = common; bytes = []; answer = refused Number.Cut 0 zeroCommon }
+    -- 0002 0001 41: one TLV
+    ∷ record { reader = initiation; bytes = 0 ∷ 2 ∷ 0 ∷ 1 ∷ 65 ∷ []; answer = good 5 5 (number 2 ∷ number 1 ∷ (65 ∷ []) ∷ []) }
+    -- 0002 0005 41: none, since its length is beyond the rest
+    ∷ record { reader = initiation; bytes = 0 ∷ 2 ∷ 0 ∷ 5 ∷ 65 ∷ []; answer = good 4 0 [] }
+    ∷ []

@@ -1,0 +1,58 @@
+-- An answer of any reader in one form, so that examples for all of them stand in one list.
+use Prim.Native.Nat.{ℕ}
+use mathlib.Core.List.{List, [], _∷_, _++_}
+use lib.ListN.{take}
+use Rattle.wire.specs.View.{viewed}
+use Rattle.wire.specs.declared.Refusal.{Refusal}
+use Rattle.common_header.specs.Shown as Common
+use Rattle.common_header.specs.Read.{readCommonHeader}
+use Rattle.common_header.specs.declared.CommonHeaderAnswer.{CommonHeaderAnswer}
+use Rattle.initiation_message.specs.Shown as Initiation
+use Rattle.initiation_message.specs.Read.{readInitiation}
+use Rattle.initiation_message.specs.declared.InitiationTlv.{InitiationTlv}
+use Rattle.initiation_message.specs.declared.InitiationAnswer.{InitiationAnswer}
+
+-- number, place, stop, tail's start and fields; a value that views show is the list of its bytes
+pub record Told : Type 0 where
+  pub number : ℕ
+  pub place : ℕ
+  pub stop : ℕ
+  pub tail : ℕ
+  pub fields : List (List ℕ)
+
+abbrev pub number : ℕ → List ℕ
+number n = n ∷ []
+
+pub data Reader : Type 0 where
+  common : Reader
+  initiation : Reader
+
+-- version, length, type
+abbrev pub toldCommon : CommonHeaderAnswer → Told
+toldCommon a =
+    record {
+      number = Common.refusalOf a .number;
+      place = Common.refusalOf a .place;
+      stop = Common.stopOf a;
+      tail = Common.stopOf a;
+      fields = number (Common.headerOf a .version) ∷ number (Common.headerOf a .«msg_len») ∷ number (Common.kindOf (Common.headerOf a .«msg_type»)) ∷ [];
+    }
+
+-- of each TLV below the count type, length and value
+abbrev pub toldTlvs : List ℕ → List InitiationTlv → List (List ℕ)
+toldTlvs s [] = []
+toldTlvs s (t ∷ l) = number (Initiation.kindOf (t .«info_type»)) ∷ number (t .«info_len») ∷ viewed s (t .info) ∷ toldTlvs s l
+
+abbrev pub toldInitiation : List ℕ → InitiationAnswer → Told
+toldInitiation s a =
+    record {
+      number = a .refusal .number;
+      place = a .refusal .place;
+      stop = a .stop;
+      tail = a .tail;
+      fields = toldTlvs s (take (a .message .count) (a .message .tlvs));
+    }
+
+abbrev pub told : Reader → List ℕ → Told
+told common s = toldCommon (readCommonHeader s)
+told initiation s = toldInitiation s (readInitiation s)

@@ -1,0 +1,28 @@
+-- What the splitter answers, for every input.
+use Prim.Native.Nat.{ℕ}
+use mathlib.Core.List.{List}
+use lib.ListN.{length}
+use lib.Dec.{ltb}
+use Rattle.wire.specs.Number as Number
+use Rattle.wire.specs.Bytes.{pick}
+use Rattle.wire.specs.Read.{refusal, cutAt}
+use Rattle.wire.specs.View.{view}
+use Rattle.common_header.specs.Read.{readCommonHeader}
+use Rattle.common_header.specs.declared.BmpCommonHeader.{BmpCommonHeader}
+use Rattle.common_header.specs.declared.CommonHeaderAnswer.{CommonHeaderAnswer}
+use Rattle.splitter.specs.declared.SplitAnswer.{SplitAnswer}
+
+-- a good header in an input of this length: its length is 6 to the limit, and so many bytes are there
+abbrev pub judged : ℕ → BmpCommonHeader → SplitAnswer
+judged there h =
+    pick (ltb (h .«msg_len») 6) (SplitAnswer.Refused (refusal Number.BadMessageLength 1))
+    (pick (ltb Number.limit (h .«msg_len»)) (SplitAnswer.Refused (refusal Number.TooLong 1))
+    (pick (ltb there (h .«msg_len»)) (SplitAnswer.Refused (cutAt 6)) (SplitAnswer.Message h (view 0 (h .«msg_len»)))))
+
+-- the common header's refusals come first, whatever they are
+abbrev pub afterHeader : ℕ → CommonHeaderAnswer → SplitAnswer
+afterHeader there (CommonHeaderAnswer.Good h stop) = judged there h
+afterHeader there (CommonHeaderAnswer.Refused r) = SplitAnswer.Refused r
+
+abbrev pub splitOf : List ℕ → SplitAnswer
+splitOf s = afterHeader (length s) (readCommonHeader s)

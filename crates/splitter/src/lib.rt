@@ -1,0 +1,55 @@
+// One message off the front of a BMP stream.
+use common_header::BmpCommonHeader;
+use common_header::CommonHeaderAnswer;
+use wire::Refusal;
+use wire::View;
+ghost use mathlib.Core.Path.{_≡_};
+ghost use Rattle.wire.specs.Read.{refusal};
+ghost use Rattle.splitter.specs.declared.SplitAnswer.{SplitAnswer};
+ghost use Rattle.splitter.specs.Split.{judged, splitOf};
+
+// The header of the first message and the view of that whole message, or why there is none.
+pub enum SplitAnswer {
+    Message(BmpCommonHeader, View),
+    Refused(Refusal),
+}
+
+pub fn split_message(s: &[u8]) -> SplitAnswer
+    ensures { λ r. ⌜ r ≡ splitOf (now (s .entry)) ⌝ }
+{
+    match common_header::parse_bmp_common_header(s) {
+        CommonHeaderAnswer::Refused(refusal) => SplitAnswer::Refused(refusal),
+        CommonHeaderAnswer::Good(header, _) => judge(header, s.len()),
+    }
+}
+
+// The length is judged only once the whole header is good.
+fn judge(header: BmpCommonHeader, there: usize) -> SplitAnswer
+    ensures { λ r. ⌜ r ≡ judged there header ⌝ }
+{
+    let length = header.msg_len as usize;
+    if length < 6 {
+        return refused(wire::BAD_MESSAGE_LENGTH, 1);
+    }
+    if wire::LIMIT < length {
+        return refused(wire::TOO_LONG, 1);
+    }
+    if there < length {
+        return SplitAnswer::Refused(wire::cut_at(6));
+    }
+    let message = View {
+        place: 0,
+        length: length,
+    };
+    SplitAnswer::Message(header, message)
+}
+
+fn refused(number: u8, place: usize) -> SplitAnswer
+    ensures { λ r. ⌜ r ≡ SplitAnswer.Refused (refusal number place) ⌝ }
+{
+    let refusal = Refusal {
+        number: number,
+        place: place,
+    };
+    SplitAnswer::Refused(refusal)
+}
