@@ -10,8 +10,9 @@ use lib.ListN.{length, take, drop}
 use lib.Seq.{sets-eq, drop-at}
 use Rattle.wire.specs.Number as Number
 use Rattle.wire.specs.Read.{refusal}
+use Rattle.wire.specs.declared.View.{View}
 use Rattle.wire.proofs.Determined.{determined}
-use Rattle.writing.specs.Write.{putAt, refusalOf, lengthOf, writeAnswer, after, written}
+use Rattle.writing.specs.Write.{putAt, tlvFits, refusalOf, lengthOf, writeAnswer, after, written}
 use Rattle.writing.specs.declared.WriteAnswer.{WriteAnswer}
 use Rattle.writing.specs.declared.WriteAnswer.the-variants.{Written, Refused}
 use Rattle.writing.proofs.Sets.{put-fits, put-nothing}
@@ -26,6 +27,10 @@ put-determined out at b out′ out″ = determined
 -- Two answers of write_answer for the same test, length and room are equal.
 pub write-answer-determined : (ok : Bool) (n room : ℕ) (r q : WriteAnswer) → r ≡ writeAnswer ok n room → q ≡ writeAnswer ok n room → r ≡ q
 write-answer-determined ok n room r q = determined
+
+-- Two answers of tlv_fits for the same TLV and room are equal.
+pub tlv-fits-determined : (kind size : ℕ) (v : View) (room : ℕ) (r q : Bool) → r ≡ tlvFits kind size v room → q ≡ tlvFits kind size v room → r ≡ q
+tlv-fits-determined kind size v room r q = determined
 
 -- ---- a put
 -- Bytes that fit stand at their place, with all before and behind them as it was; bytes that do not fit change nothing.
