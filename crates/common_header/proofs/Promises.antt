@@ -120,6 +120,10 @@ only-writable h r =
     let n : h .«msg_len» < 256 ^ 4 = subst (λ (k : BmpCommonHeader). k .«msg_len» < 256 ^ 4) e (x .1 .is-good .length-fits) in
     rw (eq-eqb (h .version) 3 v) (lt-ltb (h .«msg_len») (256 ^ 4) n)
 
+-- A type's number is one of the seven.
+pub kind-known : (t : BmpMsgType) → kindOf t ≤ 6
+kind-known t = named t .1
+
 -- ---- any two answers, and any two outputs, that the contracts allow are equal
 pub parse-determined : (s : List ℕ) (a b : CommonHeaderAnswer) → a ≡ readCommonHeader s → b ≡ readCommonHeader s → a ≡ b
 parse-determined s a b = determined
@@ -128,3 +132,6 @@ pub write-determined : (h : BmpCommonHeader) (out : List ℕ) (a b : WriteAnswer
     → a ≡ writeAnswer (writable h) (length (bytesOf h)) (length out) → b ≡ writeAnswer (writable h) (length (bytesOf h)) (length out)
     → o ≡ written (writable h) (bytesOf h) out → p ≡ written (writable h) (bytesOf h) out → (a ≡ b) × (o ≡ p)
 write-determined h out a b o p ea eb eo ep = (determined ea eb, determined eo ep)
+
+pub kind-of-determined : (t : BmpMsgType) (n k : ℕ) → n ≡ kindOf t → k ≡ kindOf t → n ≡ k
+kind-of-determined t n k = determined

@@ -148,7 +148,7 @@ fn put_header(header: BmpCommonHeader, out: &mut [u8])
 }
 
 // The number that stands for a type on the wire.
-fn kind_of(msg_type: BmpMsgType) -> u8
+pub fn kind_of(msg_type: BmpMsgType) -> u8
     ensures { λ r. ⌜ r ≡ kindOf «msg_type» ⌝ }
 {
     match msg_type {

@@ -263,7 +263,8 @@ fn put_tlv(out: &mut [u8], at: usize, tlv: InitiationTlv, buffer: &[u8])
     writing::put_tlv(out, at, kind_of(kind), tlv.info_len, part);
 }
 
-fn kind_of(kind: InitiationTlvType) -> u16
+// The number that stands for a TLV's type on the wire.
+pub fn kind_of(kind: InitiationTlvType) -> u16
     ensures { λ r. ⌜ r ≡ kindOf kind ⌝ }
 {
     match kind {

@@ -1,8 +1,6 @@
 // Says what is in a BMP stream: how many messages of each type, and what its Initiation messages tell.
-use common_header::BmpMsgType;
 use initiation_message::InitiationMessage;
 use initiation_message::InitiationTlv;
-use initiation_message::InitiationTlvType;
 use libc::STDIN_FILENO;
 use libc::STDOUT_FILENO;
 use splitter::SplitAnswer;
@@ -86,23 +84,8 @@ fn step_at(s: &[u8], at: usize) -> Step
     let msg_type = header.msg_type;
     let whole = message.part(rest);
     Step {
-        kind: kind_of(msg_type),
+        kind: common_header::kind_of(msg_type) as usize,
         next: at + whole.len(),
-    }
-}
-
-// The number that stands for a type on the wire.
-fn kind_of(msg_type: BmpMsgType) -> usize
-    ensures { λ r. ⌜ r < 7 ⌝ }
-{
-    match msg_type {
-        BmpMsgType::RouteMonitoring => 0,
-        BmpMsgType::StatisticsReport => 1,
-        BmpMsgType::PeerDownNotification => 2,
-        BmpMsgType::PeerUpNotification => 3,
-        BmpMsgType::InitiationMessage => INITIATION,
-        BmpMsgType::TerminationMessage => 5,
-        BmpMsgType::RouteMirroringMessage => 6,
     }
 }
 
@@ -164,24 +147,12 @@ fn print_tlv(tlv: InitiationTlv, body: &[u8]) {
     let info_type = tlv.info_type;
     let info = tlv.info;
     print(b"initiation type ");
-    print_number(tlv_kind_of(info_type) as u64);
+    print_number(initiation_message::kind_of(info_type) as u64);
     print(b" length ");
     print_number(tlv.info_len as u64);
     print(b" ");
     print_visible(info.part(body));
     print(b"\n");
-}
-
-// The number that stands for a TLV's type on the wire.
-fn tlv_kind_of(info_type: InitiationTlvType) -> u16 {
-    match info_type {
-        InitiationTlvType::String => 0,
-        InitiationTlvType::SysDescr => 1,
-        InitiationTlvType::SysName => 2,
-        InitiationTlvType::VrTableName => 3,
-        InitiationTlvType::AdminLabel => 4,
-        InitiationTlvType::Unknown(n) => n,
-    }
 }
 
 fn print_refusal_before_end(s: &[u8], end: usize)
