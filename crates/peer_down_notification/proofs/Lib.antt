@@ -1,0 +1,4 @@
+pub mod Written
+pub mod Laws
+pub mod Trip
+pub mod Promises

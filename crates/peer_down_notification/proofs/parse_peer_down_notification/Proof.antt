@@ -1,0 +1,75 @@
+use borrow.Author.Needs.{needs}
+use denote.Ref.{now}
+use borrow.Author.Tests.{lt-ltb, le-ltb, le-leb, lt-leb}
+use mathlib.Core.Path.{sym, ap, _∙_}
+use Prim.Native.Nat.{_-_}
+use lib.ListN.{length}
+use Rattle.peer_down_notification.specs.Read.{goodOf}
+use Rattle.wire.proofs.Reading.{Was, was-got, was-cut, told8, tells8}
+use Rattle.peer_down_notification.proofs.parse_peer_down_notification.Statement.{statement}
+use Rattle.peer_down_notification.proofs.parse_peer_down_notification.Tie as tie
+use Rattle.wire.specs.Number as Number
+use Rattle.peer_down_notification.specs.declared.PeerDownAnswer.{PeerDownAnswer}
+
+was-kind : (c : tie.After-known-told) → Was 1 (now (c .before .before .before .before .before .before .args .s)) 0 (c .before .kind .given .0 .0) (c .before .kind .given .0 .1 .0)
+was-kind c = was-got 1 (now (c .before .before .before .before .before .before .args .s)) 0 (ap told8 (c .before .kind .given .1)) (tells8 _ (c .before .before .before .read-u8 .ensures))
+
+refused-requires : tie.Need-refused-requires
+refused-requires c κs = search needs
+
+returns : tie.Need-returns
+returns c = c .refused .ensures ∙ sym (rw (lt-ltb Number.limit (length (now (c .before .before .before .args .s))) (c .before .if1 .taken)))
+
+read-u8-requires : tie.Need-read-u8-requires
+read-u8-requires c κs = search needs
+
+enum-known-kind : tie.Need-enum-known-kind
+enum-known-kind c = search needs
+
+enum-told : tie.Need-enum-told
+enum-told c = search needs
+
+cut-at-requires : tie.Need-cut-at-requires
+cut-at-requires c κs = search needs
+
+returns-2 : tie.Need-returns-2
+returns-2 c =
+    let h = was-cut 1 (now (c .before .before .before .before .before .before .args .s)) 0 (ap told8 (c .before .enum-told .given .1)) (tells8 _ (c .before .before .before .read-u8 .ensures)) in
+    ap PeerDownAnswer.Refused (c .cut-at .ensures) ∙ sym (rw (le-ltb Number.limit (length (now (c .before .before .before .before .before .before .args .s))) (c .before .before .before .before .if1 .left), lt-leb 1 (length (now (c .before .before .before .before .before .before .args .s)) - 0) h))
+
+refused-requires-2 : tie.Need-refused-requires-2
+refused-requires-2 c κs = search needs
+
+returns-3 : tie.Need-returns-3
+returns-3 c =
+    let w = was-kind (c .before .before) in
+    c .refused2 .ensures ∙ sym (rw (le-ltb Number.limit (length (now (c .before .before .before .before .before .before .before .before .args .s))) (c .before .before .before .before .before .before .if1 .left), le-leb 1 (length (now (c .before .before .before .before .before .before .before .before .args .s)) - 0) (w .left), ← w .number, lt-ltb 6 (c .before .before .before .kind .given .0 .0) (c .before .if2 .taken)))
+
+left-requires : tie.Need-left-requires
+left-requires c κs = search needs
+
+good-requires : tie.Need-good-requires
+good-requires c κs = search needs
+
+returns-4 : tie.Need-returns-4
+returns-4 c =
+    let w = was-kind (c .before .before .before) in
+    c .good2 .ensures ∙ ap (goodOf (c .before .before .before .before .kind .given .0 .0)) (c .before .left .ensures)
+    ∙ sym (rw (le-ltb Number.limit (length (now (c .before .before .before .before .before .before .before .before .before .args .s))) (c .before .before .before .before .before .before .before .if1 .left), le-leb 1 (length (now (c .before .before .before .before .before .before .before .before .before .args .s)) - 0) (w .left), ← w .number, le-ltb 6 (c .before .before .before .before .kind .given .0 .0) (c .before .before .if2 .left)))
+
+pub parse-peer-down-notification-spec : {M : Type 1} → statement M
+parse-peer-down-notification-spec =
+    tie.close
+    (tie.spec
+    refused-requires
+    returns
+    read-u8-requires
+    enum-known-kind
+    enum-told
+    cut-at-requires
+    returns-2
+    refused-requires-2
+    returns-3
+    left-requires
+    good-requires
+    returns-4)

@@ -1,0 +1,197 @@
+// The body of a BMP Peer Down notification (RFC 7854, section 4.9).
+use wire::Cursor;
+use wire::ReadU8;
+use wire::Refusal;
+use wire::View;
+use writing::WriteAnswer;
+ghost use mathlib.Core.Path.{_≡_};
+ghost use Prim.Native.Nat.{_≤_};
+ghost use lib.ListN.{length};
+ghost use Rattle.wire.specs.Read.{refusal};
+ghost use Rattle.writing.specs.Write.{writeAnswer, written};
+ghost use Rattle.peer_down_notification.specs.declared.PeerDownAnswer.{PeerDownAnswer};
+ghost use Rattle.peer_down_notification.specs.Shown.{reasonOf, kindOf, isPresent, viewOf};
+ghost use Rattle.peer_down_notification.specs.Read.{hasData, goodOf, readPeerDown};
+ghost use Rattle.peer_down_notification.specs.Write.{partsWritable, writable, bytesOf};
+
+pub enum PeerDownReason {
+    Reserved,
+    LocalSystemClosedNotificationPduFollows,
+    LocalSystemClosedFsmEvenFollows,
+    RemoteSystemClosedNotificationPduFollows,
+    RemoteSystemsClosedNoData,
+    PeerDeConfigured,
+    LocalSystemClosedTlvDataFollows,
+}
+
+// Data that is there and empty is not the same as no data.
+pub enum PeerDownData {
+    Absent,
+    Present(View),
+}
+
+pub struct PeerDownNotification {
+    pub reason: PeerDownReason,
+    pub data: PeerDownData,
+}
+
+// The notification and the place after it, or why there is none.
+pub enum PeerDownAnswer {
+    Good(PeerDownNotification, usize),
+    Refused(Refusal),
+}
+
+pub fn parse_peer_down_notification(s: &[u8]) -> PeerDownAnswer
+    ensures { λ r. ⌜ r ≡ readPeerDown (now (s .entry)) ⌝ }
+{
+    if wire::LIMIT < s.len() {
+        return refused(wire::TOO_LONG, 0);
+    }
+    let start = Cursor { at: 0 };
+    let ReadU8::Good(kind, _) = start.read_u8(s) else {
+        return PeerDownAnswer::Refused(wire::cut_at(0));
+    };
+    if 6 < kind {
+        return refused(wire::UNKNOWN_KIND, 0);
+    }
+    good(kind, wire::left(s, 1))
+}
+
+fn good(kind: u8, rest: usize) -> PeerDownAnswer
+    requires { ⌜ rest ≤ 1048576 ⌝ }
+    ensures { λ r. ⌜ r ≡ goodOf kind rest ⌝ }
+{
+    if has_data(kind, rest) {
+        let data = View {
+            place: 1,
+            length: rest,
+        };
+        let notification = PeerDownNotification {
+            reason: reason_of(kind),
+            data: PeerDownData::Present(data),
+        };
+        return PeerDownAnswer::Good(notification, 1 + rest);
+    }
+    let notification = PeerDownNotification {
+        reason: reason_of(kind),
+        data: PeerDownData::Absent,
+    };
+    PeerDownAnswer::Good(notification, 1)
+}
+
+// Whether a reason has data where this many bytes follow it.
+fn has_data(kind: u8, rest: usize) -> bool
+    ensures { λ r. ⌜ r ≡ hasData kind rest ⌝ }
+{
+    if kind == 0 {
+        return 0 < rest;
+    }
+    if kind == 4 {
+        return false;
+    }
+    if kind == 5 {
+        return false;
+    }
+    true
+}
+
+fn refused(number: u8, place: usize) -> PeerDownAnswer
+    ensures { λ r. ⌜ r ≡ PeerDownAnswer.Refused (refusal number place) ⌝ }
+{
+    let refusal = Refusal {
+        number: number,
+        place: place,
+    };
+    PeerDownAnswer::Refused(refusal)
+}
+
+fn reason_of(kind: u8) -> PeerDownReason
+    ensures { λ r. ⌜ r ≡ reasonOf kind ⌝ }
+{
+    match kind {
+        0 => PeerDownReason::Reserved,
+        1 => PeerDownReason::LocalSystemClosedNotificationPduFollows,
+        2 => PeerDownReason::LocalSystemClosedFsmEvenFollows,
+        3 => PeerDownReason::RemoteSystemClosedNotificationPduFollows,
+        4 => PeerDownReason::RemoteSystemsClosedNoData,
+        5 => PeerDownReason::PeerDeConfigured,
+        _ => PeerDownReason::LocalSystemClosedTlvDataFollows,
+    }
+}
+
+pub fn write_peer_down_notification(
+    notification: PeerDownNotification,
+    buffer: &[u8],
+    out: &mut [u8],
+) -> WriteAnswer
+    ensures { λ r. ⌜ r ≡ writeAnswer (writable notification (length (now (buffer .entry)))) (length (bytesOf notification (now (buffer .entry)))) (length (now (out .entry))) ⌝ }
+    ensures { λ _. ⌜ now (out .exit) ≡ written (writable notification (length (now (buffer .entry)))) (bytesOf notification (now (buffer .entry))) (now (out .entry)) ⌝ }
+{
+    let reason = notification.reason;
+    let data = notification.data;
+    let kind = kind_of(reason);
+    let view = view_of(data);
+    if !is_writable(kind, is_present(data), view, buffer.len()) {
+        return writing::write_answer(false, 0, out.len());
+    }
+    let part = view.part(buffer);
+    let answer = writing::write_answer(true, 1 + part.len(), out.len());
+    let WriteAnswer::Written(_) = answer else {
+        return answer;
+    };
+    writing::put_u8(out, 0, kind);
+    writing::put_bytes(out, 1, part);
+    answer
+}
+
+fn is_writable(kind: u8, present: bool, view: View, room: usize) -> bool
+    ensures { λ r. ⌜ r ≡ partsWritable kind present view room ⌝ }
+{
+    let given = has_data(kind, view.length);
+    if present {
+        if given {
+            return view.is_inside(room);
+        }
+        return false;
+    }
+    if given {
+        return false;
+    }
+    view.is_inside(room)
+}
+
+fn is_present(data: PeerDownData) -> bool
+    ensures { λ r. ⌜ r ≡ isPresent «data» ⌝ }
+{
+    match data {
+        PeerDownData::Absent => false,
+        PeerDownData::Present(_) => true,
+    }
+}
+
+// No data is written as the empty part.
+fn view_of(data: PeerDownData) -> View
+    ensures { λ r. ⌜ r ≡ viewOf «data» ⌝ }
+{
+    match data {
+        PeerDownData::Absent => View {
+            place: 0,
+            length: 0,
+        },
+        PeerDownData::Present(view) => view,
+    }
+}
+
+fn kind_of(reason: PeerDownReason) -> u8
+    ensures { λ r. ⌜ r ≡ kindOf reason ⌝ }
+{
+    match reason {
+        PeerDownReason::Reserved => 0,
+        PeerDownReason::LocalSystemClosedNotificationPduFollows => 1,
+        PeerDownReason::LocalSystemClosedFsmEvenFollows => 2,
+        PeerDownReason::RemoteSystemClosedNotificationPduFollows => 3,
+        PeerDownReason::RemoteSystemsClosedNoData => 4,
+        PeerDownReason::PeerDeConfigured => 5,
+        PeerDownReason::LocalSystemClosedTlvDataFollows => 6,
+    }
+}
