@@ -7,6 +7,8 @@ use Rattle.common_header.specs.Shown as Common
 use Rattle.common_header.specs.Read.{readFields}
 use Rattle.initiation_message.specs.Shown as Initiation
 use Rattle.initiation_message.specs.Read.{step}
+use Rattle.peer_down_notification.specs.Shown as PeerDown
+use Rattle.peer_down_notification.specs.Read.{hasData}
 use Rattle.specimens.specs.Told.{Told, told}
 use Rattle.specimens.specs.List.{Specimen, specimens}
 
@@ -18,5 +20,5 @@ expected x = x .answer
 
 -- One theorem over the whole list.
 pub specimens-hold : map answered specimens ≡ map expected specimens
-unfolding value walk fill readFields Common.typeOf Common.kindOf step Initiation.typeOf Initiation.kindOf Initiation.zeroTable
+unfolding value walk fill readFields Common.typeOf Common.kindOf step Initiation.typeOf Initiation.kindOf Initiation.zeroTable PeerDown.reasonOf PeerDown.kindOf hasData
 specimens-hold = refl

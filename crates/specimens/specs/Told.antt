@@ -11,6 +11,11 @@ use Rattle.initiation_message.specs.Shown as Initiation
 use Rattle.initiation_message.specs.Read.{readInitiation}
 use Rattle.initiation_message.specs.declared.InitiationTlv.{InitiationTlv}
 use Rattle.initiation_message.specs.declared.InitiationAnswer.{InitiationAnswer}
+use Rattle.peer_down_notification.specs.Grammar.{Data, absent, present}
+use Rattle.peer_down_notification.specs.Shown as PeerDown
+use Rattle.peer_down_notification.specs.Read.{readPeerDown}
+use Rattle.peer_down_notification.specs.Write.{dataOf}
+use Rattle.peer_down_notification.specs.declared.PeerDownAnswer.{PeerDownAnswer}
 
 -- number, place, stop, tail's start and fields; a value that views show is the list of its bytes
 pub record Told : Type 0 where
@@ -26,6 +31,7 @@ number n = n ∷ []
 pub data Reader : Type 0 where
   common : Reader
   initiation : Reader
+  peer-down : Reader
 
 -- version, length, type
 abbrev pub toldCommon : CommonHeaderAnswer → Told
@@ -53,6 +59,22 @@ toldInitiation s a =
       fields = toldTlvs s (take (a .message .count) (a .message .tlvs));
     }
 
+-- the reason, whether there is data (1 or 0), and the data
+abbrev pub toldData : Data → List (List ℕ)
+toldData absent = number 0 ∷ []
+toldData (present b) = number 1 ∷ b ∷ []
+
+abbrev pub toldPeerDown : List ℕ → PeerDownAnswer → Told
+toldPeerDown s a =
+    record {
+      number = PeerDown.refusalOf a .number;
+      place = PeerDown.refusalOf a .place;
+      stop = PeerDown.stopOf a;
+      tail = PeerDown.stopOf a;
+      fields = number (PeerDown.kindOf (PeerDown.notificationOf a .reason)) ∷ toldData (dataOf s (PeerDown.notificationOf a .«data»));
+    }
+
 abbrev pub told : Reader → List ℕ → Told
 told common s = toldCommon (readCommonHeader s)
 told initiation s = toldInitiation s (readInitiation s)
+told peer-down s = toldPeerDown s (readPeerDown s)
