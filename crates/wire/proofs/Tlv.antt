@@ -1,8 +1,8 @@
 -- TLVs and tails, joined and taken apart, both ways. Assumes nothing.
 use mathlib.Core.Path.{_≡_, refl, sym, ap, _∙_}
-use mathlib.Core.List.{List}
+use mathlib.Core.List.{List, _++_}
 use mathlib.Core.Logic.{_⊎_, inl, inr}
-use Prim.Native.Nat.{ℕ, _+_, _-_, _≤_, _<_}
+use Prim.Native.Nat.{ℕ, _+_, _-_, _^_, _≤_, _<_}
 use native.Mathlib.Omega.{arith}
 use borrow.Author.Tests.{le-leb, lt-leb}
 use lib.ListN.{length, take, drop, length-append, length-drop}
@@ -94,3 +94,20 @@ tail-parts s p (inr h) =
       },
       rw (num-back 2 2 p (omega (arith, h .0))) (num-back 2 0 p (omega (arith, h .0))),
     )
+
+-- ---- a TLV whose value is a code of two bytes, whatever its length says
+pub record Coded (kind size code : ℕ) (s : List ℕ) : Type 0 where
+  pub kind-is : numAt 2 s 0 ≡ kind
+  pub size-is : numAt 2 s 2 ≡ size
+  pub code-is : numAt 2 s 4 ≡ code
+
+-- in front of the bytes r
+pub code-join : (kind size code : ℕ) (r : List ℕ) → kind < 256 ^ 2 → size < 256 ^ 2 → code < 256 ^ 2
+    → Coded kind size code (be 2 kind ++ (be 2 size ++ (be 2 code ++ r)))
+unfolding be
+code-join kind size code r k z c = record { kind-is = value-be 2 kind k; size-is = value-be 2 size z; code-is = value-be 2 code c }
+
+-- bytes that begin with one
+pub code-parts : (s : List ℕ) → Bytes s → 6 ≤ length s
+    → be 2 (numAt 2 s 0) ++ (be 2 (numAt 2 s 2) ++ (be 2 (numAt 2 s 4) ++ drop 6 s)) ≡ s
+code-parts s p h = rw (num-back 2 4 p (omega arith), num-back 2 2 p (omega arith)) (num-back 2 0 p (omega arith))

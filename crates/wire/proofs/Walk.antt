@@ -291,3 +291,17 @@ module _ {A : Type 0} (put : A → List ℕ → List ℕ) (long : A → ℕ) (pu
 
   pub no-tail : (l : List A) (z : List ℕ) → joinAll put l z ≡ joinAll put l [] → z ≡ []
   no-tail l z e = empty z (omega (arith, join-length l z, ap length e))
+
+-- ---- a turn of a reader's loop that finds a fault: where nothing is left there is none
+pub onwards-bad : (K : Kit) → K .step [] ≡ stop → (n at : ℕ) (table : List (K .Entry)) (s : List ℕ) (r : Refusal)
+    → n ≤ at → K .step (drop at s) ≡ bad r → onwards K n at table s ≡ refused (from at r)
+onwards-bad K nil n at table s r few e = go (drop at s) refl
+  where
+    go : (z : List ℕ) → drop at s ≡ z → onwards K n at table s ≡ refused (from at r)
+    go [] d =
+        let q : stop ≡ bad r = sym nil ∙ ap (K .step) (sym d) ∙ e in
+        let x : _≡_ {A = ℕ} 0 1 = cc in
+        absurd (omega arith)
+    go (b ∷ z) d =
+        let l : length s - at ≡ suc (length z) = sym (length-drop at s) ∙ ap length d in
+        resume-bad K n at table s (length s - n) (length s - (n + 1)) (omega arith) r e

@@ -37,6 +37,11 @@ kept-below table n i h = omega (arith, h, length-take n table)
 pub kept-at : {A : Type 0} (table : List A) (n i : ℕ) (d : A) → i < length (take n table) → getD (take n table) i d ≡ getD table i d
 kept-at table n i d h = getD-take n table i d (kept-below table n i h)
 
+-- what holds of each of the first n entries of the table
+pub kept-each : {A : Type 0} (P : ℕ → A → Type 0) (table : List A) (n : ℕ) (d : A) → ((i : ℕ) → i < n → P i (getD table i d))
+    → (i : ℕ) → i < length (take n table) → P i (getD (take n table) i d)
+kept-each P table n d each i h = subst (P i) (sym (kept-at table n i d h)) (each i (kept-below table n i h))
+
 module _ (W : Writer) where
   -- ---- judged: the entries from i on decide
   module _ (table : List (W .Entry)) (n i : ℕ) (t : W .Entry) (a : At table n i t) (room : ℕ) (w : Bool) (so-far : w ≡ allOk W room (drop i (take n table))) where

@@ -1,0 +1,92 @@
+-- What a user of the Route Mirroring body relies on. Assumes nothing.
+use mathlib.Core.Path.{_≡_, refl, sym, _∙_, subst}
+use mathlib.Core.Bool.{Bool, true, false}
+use mathlib.Core.List.{List}
+use Prim.Native.Nat.{ℕ, _≤_, _<_}
+use native.Mathlib.Omega.{arith}
+use borrow.Author.Tests.{ltb-false}
+use lib.Dec.{ltb}
+use lib.ListN.{length-take, length, take, getD}
+use Rattle.wire.specs.Number as Number
+use Rattle.wire.specs.Bytes.{Bytes}
+use Rattle.wire.specs.Parts.{AllAt}
+use Rattle.wire.specs.Walk.{Out, good, refused, readFrom}
+use Rattle.wire.proofs.Determined.{determined}
+use Rattle.wire.proofs.Walk.{read-sound, read-complete, read-fault, each-at}
+use Rattle.wire.proofs.Walk as Walk
+use Rattle.writing.specs.Write.{lengthOf, writeAnswer, written}
+use Rattle.writing.specs.declared.WriteAnswer.{WriteAnswer}
+use Rattle.writing.specs.declared.WriteAnswer.the-variants.{Written}
+use Rattle.writing.proofs.Answers.{front}
+use Rattle.writing.proofs.Table.{length-parts}
+use Rattle.route_mirroring.specs.Grammar.{Reading, join, Good}
+use Rattle.route_mirroring.specs.Shown.{sizeOf, zeroTlv, places, Fits, shown}
+use Rattle.route_mirroring.specs.Read.{kit, readMirroring}
+use Rattle.route_mirroring.specs.Write.{writer, kept, readingOf, bytesOf, writable}
+use Rattle.route_mirroring.specs.declared.RouteMirroringTlv.{RouteMirroringTlv}
+use Rattle.route_mirroring.specs.declared.RouteMirroring.{RouteMirroring}
+use Rattle.route_mirroring.specs.declared.RouteMirroringAnswer.{RouteMirroringAnswer}
+use Rattle.route_mirroring.proofs.Laws.{faults, laws, tails}
+use Rattle.route_mirroring.proofs.Written.{writes-of}
+use Rattle.route_mirroring.proofs.Shows.{Shows, shows-of, ViewAt, view-at}
+use Rattle.route_mirroring.proofs.Trip.{good-of, ReadsBack, reads-back}
+use Rattle.route_mirroring.proofs.Converse.{Inside, TwoBytes, bytes-joined, writable-from}
+
+-- What the reader accepts has a good reading that fits, and it shows that reading.
+pub sound : (s : List ℕ) → Bytes s → readMirroring s .refusal .number ≡ Number.Good → (r : Reading) × Shows s r
+sound s p e = go (ltb Number.limit (length s)) refl (readFrom kit (length s) 0 s) refl
+  where
+    go : (b : Bool) → ltb Number.limit (length s) ≡ b → (o : Out RouteMirroringTlv) → readFrom kit (length s) 0 s ≡ o → (r : Reading) × Shows s r
+    go true h o k = let q : _≡_ {A = ℕ} 1 0 = (rw h at e) in absurd (omega arith)
+    go false h (refused r) k =
+        let f = read-fault kit faults (length s) 0 s r k in
+        let x : r .number ≡ 0 = (rw (h, k) at e) in
+        absurd (omega arith)
+    go false h (good n at table z) k =
+        let a = read-sound kit laws tails 0 s p n at table z k in
+        (record { tlvs = a .0; tail = a .1 }, shows-of s (ltb-false Number.limit (length s) h) (a .0) (a .1) (a .2))
+
+-- Every good reading that fits is accepted, and shown.
+pub complete : (r : Reading) → Good r → Fits r → length (join r) ≤ Number.limit → readMirroring (join r) ≡ shown r
+complete r g f short =
+    shows-of (join r) short (r .tlvs) (r .tail) (read-complete kit laws tails 0 (join r) (r .tlvs) (r .tail) (g .each) (g .tail-good) refl f) .shown-so
+
+-- No input has two readings, whatever the table holds.
+pub unique : (r q : Reading) → Good r → Good q → join r ≡ join q → r ≡ q
+unique r q g h e =
+    let u = Walk.unique kit laws tails (r .tlvs) (q .tlvs) (r .tail) (q .tail) (g .each) (g .tail-good) (h .each) (h .tail-good) e in
+    λ i. record { tlvs = u .0 i; tail = u .1 i }
+
+-- In the answer that shows a good reading, the view of each BGP message shows that message's bytes, and each information has its code.
+pub views : (r : Reading) → Good r → AllAt sizeOf (ViewAt (join r)) 0 (r .tlvs)
+views r g = each-at kit laws (ViewAt (join r)) (join r) (view-at (join r)) (r .tlvs) (r .tail) 0 (g .each) refl
+
+-- What the writer has written, where the record is writable and there is room, is read back as the same record.
+pub round-trip : (m : RouteMirroring) (b out out′ : List ℕ) (a : WriteAnswer) → Bytes b → length (m .tlvs) ≡ places
+    → a ≡ writeAnswer (writable m (length b)) (length (bytesOf m b)) (length out) → out′ ≡ written (writable m (length b)) (bytesOf m b) out
+    → writable m (length b) ≡ true → length (bytesOf m b) ≤ Number.limit → length (bytesOf m b) ≤ length out
+    → (a ≡ Written (length (bytesOf m b))) × ReadsBack m b (take (lengthOf a) out′)
+round-trip m b out out′ a p long ea eo w short room =
+    let f = front (writable m (length b)) (bytesOf m b) out out′ a ea eo w short room in
+    let x = writes-of m (length b) w in
+    let g = good-of m b p (x .fine) in
+    let n = length-parts writer b (kept m) ∙ length-take (m .count) (m .tlvs) in
+    let a = complete (readingOf m b) g (omega (arith, n, x .few)) short in
+    (f .answer-is, subst (ReadsBack m b) (sym (f .bytes-are)) (reads-back m b long x a (views (readingOf m b) g)))
+
+-- A record whose views lie inside the buffer, whose information has length 2, and whose bytes are read back as itself, is writable.
+pub only-writable : (m : RouteMirroring) (b : List ℕ) → Bytes b → length (m .tlvs) ≡ places
+    → ((i : ℕ) → i < m .count → Inside b (getD (m .tlvs) i zeroTlv)) → ((i : ℕ) → i < m .count → TwoBytes (getD (m .tlvs) i zeroTlv))
+    → ReadsBack m b (bytesOf m b) → writable m (length b) ≡ true
+only-writable m b p long inside two r =
+    let q = sound (bytesOf m b) (bytes-joined b p (kept m)) (r .read-good) in
+    writable-from m b long inside two (q .0) (q .1) (views (q .0) (q .1 .is-good)) r
+
+-- ---- any two answers, and any two outputs, that the contracts allow are equal
+pub parse-determined : (s : List ℕ) (a b : RouteMirroringAnswer) → a ≡ readMirroring s → b ≡ readMirroring s → a ≡ b
+parse-determined s a b = determined
+
+pub write-determined : (m : RouteMirroring) (b out : List ℕ) (r q : WriteAnswer) (o p : List ℕ)
+    → r ≡ writeAnswer (writable m (length b)) (length (bytesOf m b)) (length out) → q ≡ writeAnswer (writable m (length b)) (length (bytesOf m b)) (length out)
+    → o ≡ written (writable m (length b)) (bytesOf m b) out → p ≡ written (writable m (length b)) (bytesOf m b) out → (r ≡ q) × (o ≡ p)
+write-determined m b out r q o p er eq eo ep = (determined er eq, determined eo ep)

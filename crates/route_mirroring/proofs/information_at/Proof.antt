@@ -1,0 +1,63 @@
+use borrow.Author.Needs.{needs}
+use denote.Ref.{now}
+use mathlib.Core.Path.{_≡_, sym, ap, _∙_}
+use lib.ListN.{drop}
+use Rattle.route_mirroring.proofs.Steps.{short-at, unknown-at, information-there}
+use Rattle.wire.specs.Bytes.{numAt}
+use Rattle.wire.proofs.Reading.{Was, was-got, was-cut, was-in, told16, tells16}
+use Rattle.route_mirroring.proofs.information_at.Statement.{statement}
+use Rattle.route_mirroring.proofs.information_at.Tie as tie
+use Rattle.route_mirroring.specs.declared.Step.the-variants.{Bad}
+
+was-code : (c : tie.After-known-told) → Was 2 (now (c .before .before .before .before .before .args .s)) (c .before .before .before .before .before .args .value .at) (c .before .code .given .0 .0) (c .before .code .given .0 .1 .0)
+was-code c = was-got 2 (now (c .before .before .before .before .before .args .s)) (c .before .before .before .before .before .args .value .at) (ap told16 (c .before .code .given .1)) (tells16 _ (c .before .before .before .read-u16 .ensures))
+
+code-is : (c : tie.After-known-told) → numAt 2 (drop (c .before .before .before .before .before .args .at) (now (c .before .before .before .before .before .args .s))) 4 ≡ c .before .code .given .0 .0
+code-is c = was-in (c .before .before .before .before .before .args .at) 4 (c .before .before .before .before .before .pre .1) (was-code c)
+
+read-u16-requires : tie.Need-read-u16-requires
+read-u16-requires c κs = search needs
+
+enum-known-code : tie.Need-enum-known-code
+enum-known-code c = search needs
+
+enum-told : tie.Need-enum-told
+enum-told c = search needs
+
+cut-at-requires : tie.Need-cut-at-requires
+cut-at-requires c κs = search needs
+
+returns : tie.Need-returns
+returns c =
+    let h = was-cut 2 (now (c .before .before .before .before .before .args .s)) (c .before .before .before .before .before .args .value .at) (ap told16 (c .before .enum-told .given .1)) (tells16 _ (c .before .before .before .read-u16 .ensures)) in
+    ap Bad (c .cut-at .ensures) ∙ sym (short-at (now (c .before .before .before .before .before .args .s)) (c .before .before .before .before .before .args .at) (c .before .before .before .before .before .args .size) (c .before .before .before .before .before .pre .0) (c .before .before .before .before .before .args .value .at) (c .before .before .before .before .before .pre .1) h)
+
+refusal-at-requires : tie.Need-refusal-at-requires
+refusal-at-requires c κs = search needs
+
+returns-2 : tie.Need-returns-2
+returns-2 c =
+    let w = was-code (c .before .before) in
+    ap Bad (c .refusal-at .ensures) ∙ sym (unknown-at (now (c .before .before .before .before .before .before .before .args .s)) (c .before .before .before .before .before .before .before .args .at) (c .before .before .before .before .before .before .before .args .size) (c .before .before .before .before .before .before .before .pre .0) (c .before .before .before .before .before .before .before .args .value .at) (c .before .before .before .before .before .before .before .pre .1) (w .left) _ (code-is (c .before .before)) (c .before .if1 .taken))
+
+info-of-requires : tie.Need-info-of-requires
+info-of-requires c κs = search needs
+
+returns-3 : tie.Need-returns-3
+returns-3 c =
+    let w = was-code (c .before .before) in
+    rw (c .info-of .ensures) (sym (information-there (now (c .before .before .before .before .before .before .before .args .s)) (c .before .before .before .before .before .before .before .args .at) (c .before .before .before .before .before .before .before .args .size) (c .before .before .before .before .before .before .before .pre .0) (c .before .before .before .before .before .before .before .args .value .at) (c .before .before .before .before .before .before .before .pre .1) (w .left) _ (code-is (c .before .before)) (c .before .if1 .left) _ (w .next)))
+
+pub information-at-spec : {M : Type 1} → statement M
+information-at-spec =
+    tie.close
+    (tie.spec
+    read-u16-requires
+    enum-known-code
+    enum-told
+    cut-at-requires
+    returns
+    refusal-at-requires
+    returns-2
+    info-of-requires
+    returns-3)

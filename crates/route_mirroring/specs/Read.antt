@@ -1,0 +1,63 @@
+-- What the reader answers, for every input.
+use Prim.Native.Nat.{ℕ, _+_, _-_}
+use mathlib.Core.List.{List}
+use lib.ListN.{length, drop}
+use lib.Dec.{leb, ltb, eqb}
+use Rattle.wire.specs.Number as Number
+use Rattle.wire.specs.Bytes.{pick, numAt}
+use Rattle.wire.specs.Read.{refusal, cutAt, cursor}
+use Rattle.wire.specs.TlvAt.{tlvOf}
+use Rattle.wire.specs.Walk as Walk
+use Rattle.wire.specs.Walk.{stop, bad, item, from, Kit, Out, good, refused, readFrom}
+use Rattle.route_mirroring.specs.Grammar.{Tlv, bgpMessage, information}
+use Rattle.route_mirroring.specs.Shown.{places, sizeOf, entry, zeroTlv, goodAnswer, refusedAnswer}
+use Rattle.route_mirroring.specs.declared.RouteMirroringTlv.{RouteMirroringTlv}
+use Rattle.route_mirroring.specs.declared.RouteMirroringAnswer.{RouteMirroringAnswer}
+use Rattle.route_mirroring.specs.declared.Step.{Step}
+use Rattle.route_mirroring.specs.declared.Step.the-variants.{Stop, Bad, Whole}
+
+-- each kind of TLV, where it is all there
+abbrev pub messageOf : List ℕ → Tlv
+messageOf s = bgpMessage (tlvOf s .size) (tlvOf s .value)
+
+abbrev pub informationOf : List ℕ → Tlv
+informationOf s = information (numAt 2 s 2) (numAt 2 s 4)
+
+-- a BGP message: its length is judged first, at the length's place
+unfoldable pub messageStep : List ℕ → Walk.Step Tlv
+messageStep s =
+    pick (ltb (numAt 2 s 2) 19) (bad (refusal Number.BgpLength 2))
+    (pick (ltb (length s - 4) (numAt 2 s 2)) (bad (cutAt 4)) (item (messageOf s)))
+
+-- information: the length has no say
+unfoldable pub informationStep : List ℕ → Walk.Step Tlv
+informationStep s =
+    pick (ltb (length s - 4) 2) (bad (cutAt 4))
+    (pick (ltb 1 (numAt 2 s 4)) (bad (refusal Number.UnknownKind 4)) (item (informationOf s)))
+
+-- while more than 4 bytes are left: the type, and then what it asks for
+unfoldable pub step : List ℕ → Walk.Step Tlv
+step s =
+    pick (leb (length s) 4) stop
+    (pick (ltb 1 (numAt 2 s 0)) (bad (refusal Number.BadTlvType 0))
+    (pick (eqb (numAt 2 s 0) 0) (messageStep s) (informationStep s)))
+
+abbrev pub kit : Kit
+kit = record { Item = Tlv; Entry = RouteMirroringTlv; step = step; size = sizeOf; entry = entry; none = zeroTlv; limit = places }
+
+-- one step at a place, as the code answers it: the stop, the fault, or the entry and the cursor past it
+abbrev pub told : ℕ → Walk.Step Tlv → Step
+told at stop = Stop at
+told at (bad r) = Bad (from at r)
+told at (item t) = Whole (entry at t) (cursor (at + sizeOf t))
+
+abbrev pub stepAt : List ℕ → ℕ → Step
+stepAt s at = told at (step (drop at s))
+
+abbrev pub answer : Out RouteMirroringTlv → RouteMirroringAnswer
+answer (good n at table z) = goodAnswer n at table
+answer (refused r) = refusedAnswer r
+
+abbrev pub readMirroring : List ℕ → RouteMirroringAnswer
+readMirroring s =
+    pick (ltb Number.limit (length s)) (refusedAnswer (refusal Number.TooLong 0)) (answer (readFrom kit (length s) 0 s))
