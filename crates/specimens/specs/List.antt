@@ -2,7 +2,7 @@
 use Prim.Native.Nat.{ℕ}
 use mathlib.Core.List.{List, [], _∷_}
 use Rattle.wire.specs.Number as Number
-use Rattle.specimens.specs.Told.{Told, number, Reader, common, initiation, peer-down}
+use Rattle.specimens.specs.Told.{Told, number, Reader, common, initiation, peer-down, mirroring}
 
 pub record Specimen : Type 0 where
   pub reader : Reader
@@ -32,6 +32,10 @@ specimens =
     ∷ record { reader = initiation; bytes = 0 ∷ 2 ∷ 0 ∷ 1 ∷ 65 ∷ []; answer = good 5 5 (number 2 ∷ number 1 ∷ (65 ∷ []) ∷ []) }
     -- 0002 0005 41: none, since its length is beyond the rest
     ∷ record { reader = initiation; bytes = 0 ∷ 2 ∷ 0 ∷ 5 ∷ 65 ∷ []; answer = good 4 0 [] }
+    -- 0001 0007 0001: information 1, with its length as it stands
+    ∷ record { reader = mirroring; bytes = 0 ∷ 1 ∷ 0 ∷ 7 ∷ 0 ∷ 1 ∷ []; answer = good 6 6 (number 1 ∷ number 7 ∷ number 1 ∷ []) }
+    -- 0002 0000 00: no such type
+    ∷ record { reader = mirroring; bytes = 0 ∷ 2 ∷ 0 ∷ 0 ∷ 0 ∷ []; answer = refused Number.BadTlvType 0 [] }
     -- 04 aa: no data
     ∷ record { reader = peer-down; bytes = 4 ∷ 170 ∷ []; answer = good 1 1 (number 4 ∷ number 0 ∷ []) }
     -- 01: data, present and empty

@@ -1,9 +1,8 @@
 -- An answer of any reader in one form, so that examples for all of them stand in one list.
 use Prim.Native.Nat.{ℕ}
-use mathlib.Core.List.{List, [], _∷_, _++_}
+use mathlib.Core.List.{List, [], _∷_}
 use lib.ListN.{take}
 use Rattle.wire.specs.View.{viewed}
-use Rattle.wire.specs.declared.Refusal.{Refusal}
 use Rattle.common_header.specs.Shown as Common
 use Rattle.common_header.specs.Read.{readCommonHeader}
 use Rattle.common_header.specs.declared.CommonHeaderAnswer.{CommonHeaderAnswer}
@@ -16,6 +15,12 @@ use Rattle.peer_down_notification.specs.Shown as PeerDown
 use Rattle.peer_down_notification.specs.Read.{readPeerDown}
 use Rattle.peer_down_notification.specs.Write.{dataOf}
 use Rattle.peer_down_notification.specs.declared.PeerDownAnswer.{PeerDownAnswer}
+use Rattle.route_mirroring.specs.Shown as Mirroring
+use Rattle.route_mirroring.specs.Read.{readMirroring}
+use Rattle.route_mirroring.specs.declared.RouteMirroringValue.{RouteMirroringValue}
+use Rattle.route_mirroring.specs.declared.RouteMirroringValue.the-variants.{BgpMessage, Information}
+use Rattle.route_mirroring.specs.declared.RouteMirroringTlv.{RouteMirroringTlv}
+use Rattle.route_mirroring.specs.declared.RouteMirroringAnswer.{RouteMirroringAnswer}
 
 -- number, place, stop, tail's start and fields; a value that views show is the list of its bytes
 pub record Told : Type 0 where
@@ -32,6 +37,7 @@ pub data Reader : Type 0 where
   common : Reader
   initiation : Reader
   peer-down : Reader
+  mirroring : Reader
 
 -- version, length, type
 abbrev pub toldCommon : CommonHeaderAnswer → Told
@@ -74,7 +80,27 @@ toldPeerDown s a =
       fields = number (PeerDown.kindOf (PeerDown.notificationOf a .reason)) ∷ toldData (dataOf s (PeerDown.notificationOf a .«data»));
     }
 
+-- of each TLV below the count type, length, and the message's bytes or the information's code
+abbrev pub toldValue : List ℕ → RouteMirroringValue → ℕ → List (List ℕ) → List (List ℕ)
+toldValue s (BgpMessage v) size l = number 0 ∷ number size ∷ viewed s v ∷ l
+toldValue s (Information i) size l = number 1 ∷ number size ∷ number (Mirroring.codeOf i) ∷ l
+
+abbrev pub toldMirrored : List ℕ → List RouteMirroringTlv → List (List ℕ)
+toldMirrored s [] = []
+toldMirrored s (t ∷ l) = toldValue s (t .value) (t .«info_len») (toldMirrored s l)
+
+abbrev pub toldMirroring : List ℕ → RouteMirroringAnswer → Told
+toldMirroring s a =
+    record {
+      number = a .refusal .number;
+      place = a .refusal .place;
+      stop = a .stop;
+      tail = a .stop;
+      fields = toldMirrored s (take (a .message .count) (a .message .tlvs));
+    }
+
 abbrev pub told : Reader → List ℕ → Told
 told common s = toldCommon (readCommonHeader s)
 told initiation s = toldInitiation s (readInitiation s)
 told peer-down s = toldPeerDown s (readPeerDown s)
+told mirroring s = toldMirroring s (readMirroring s)
