@@ -153,9 +153,9 @@ module _ (s : List ℕ) (at : ℕ) where
       begun-at : (k : ℕ) → kind ≡ k → size ≤ length s - place → Begun (drop at s) k
       begun-at k e h = record { long = long′; kind-is = kind-is ∙ e; there = rw (length-drop, size-is) (omega arith) }
 
-      pub string-at : kind ≡ 0 → size ≤ length s - place → (end : ℕ) → end ≡ place + size → stepAt s at ≡ Whole (stringEntry size place) (cursor end)
-      string-at k h end end-is =
-          let there : at + (4 + numAt 2 (drop at s) 2) ≡ end = omega arith in
+      pub string-at : kind ≡ 0 → size ≤ length s - place → stepAt s at ≡ Whole (stringEntry size place) (cursor (place + size))
+      string-at k h =
+          let there : at + (4 + numAt 2 (drop at s) 2) ≡ place + size = omega arith in
           ap (told at (drop at s)) (of (drop at s) (text (begun-at 0 k h)))
           ∙ (λ i. Whole (stringEntry (size-is i) (sym place-is i)) (cursor (there i)))
 

@@ -97,7 +97,10 @@ pub fn parse_termination_message(s: &[u8]) -> TerminationAnswer
         }
     };
     TerminationAnswer {
-        refusal: fault(wire::GOOD, 0),
+        refusal: Refusal {
+            number: wire::GOOD,
+            place: 0,
+        },
         stop: stop,
         tail: at,
         message: TerminationMessage {
@@ -107,6 +110,7 @@ pub fn parse_termination_message(s: &[u8]) -> TerminationAnswer
     }
 }
 
+// The type is judged before the length. A Reason ends behind its two bytes, and not where its length says.
 fn step_at(s: &[u8], at: usize) -> Step
     ensures { λ r. ⌜ r ≡ stepAt (now (s .entry)) at ⌝ }
 {
@@ -117,18 +121,19 @@ fn step_at(s: &[u8], at: usize) -> Step
     let ReadU16::Good(kind, after_kind) = start.read_u16(s) else {
         return Step::Stop(at);
     };
-    if 1 < kind {
-        return Step::Bad(fault(wire::UNKNOWN_KIND, at));
-    }
     let ReadU16::Good(size, after_size) = after_kind.read_u16(s) else {
         return Step::Stop(at);
     };
     let place = after_size.at;
-    if wire::left(s, place) < (size as usize) {
+    let end = place + (size as usize);
+    let unknown = fault(wire::UNKNOWN_KIND, at);
+    if 1 < kind {
+        return Step::Bad(unknown);
+    }
+    if s.len() < end {
         return Step::Stop(place);
     }
     if kind == 0 {
-        let end = place + (size as usize);
         return Step::Whole(string_tlv(size, place), Cursor { at: end });
     }
     let ReadU16::Good(code, after_code) = after_size.read_u16(s) else {

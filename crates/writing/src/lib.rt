@@ -78,10 +78,10 @@ pub fn put_tlv(out: &mut [u8], at: usize, kind: u16, size: u16, value: &[u8])
 }
 
 // Puts a TLV whose value is a number of two bytes, whatever its length says; where it does not fit, nothing changes.
-pub fn put_tlv_u16(out: &mut [u8], at: usize, kind: u16, size: u16, n: u16)
-    ensures { λ _. ⌜ now (out .exit) ≡ putAt (now (out .entry)) at (tlvBytes kind size (be 2 n)) ⌝ }
+pub fn put_tlv_u16(out: &mut [u8], at: usize, kind: u16, size: u16, code: u16)
+    ensures { λ _. ⌜ now (out .exit) ≡ putAt (now (out .entry)) at (tlvBytes kind size (be 2 code)) ⌝ }
 {
-    let bytes = [(n / 256) as u8, (n % 256) as u8];
+    let bytes = [(code / 256) as u8, (code % 256) as u8];
     put_tlv(out, at, kind, size, &bytes);
 }
 

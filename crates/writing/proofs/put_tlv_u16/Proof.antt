@@ -24,7 +24,7 @@ same-length : tie.Need-same-length
 same-length c = search needs
 
 returns : tie.Need-returns
-returns c = c .before .before .put-tlv .ensures ∙ ap (λ (v : List ℕ). putAt (now (c .before .before .before .before .before .before .args .out)) (c .before .before .before .before .before .before .args .at) (tlvBytes (c .before .before .before .before .before .before .args .kind) (c .before .before .before .before .before .before .args .size) v)) (sym (be-two (c .before .before .before .before .before .before .args .n) (c .before .before .before .before .before .before .fits .n .fits)))
+returns c = c .before .before .put-tlv .ensures ∙ ap (λ (v : List ℕ). putAt (now (c .before .before .before .before .before .before .args .out)) (c .before .before .before .before .before .before .args .at) (tlvBytes (c .before .before .before .before .before .before .args .kind) (c .before .before .before .before .before .before .args .size) v)) (sym (be-two (c .before .before .before .before .before .before .args .code) (c .before .before .before .before .before .before .fits .code .fits)))
 
 pub put-tlv-u16-spec : {M : Type 1} → statement M
 put-tlv-u16-spec =
