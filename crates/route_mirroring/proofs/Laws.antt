@@ -15,7 +15,7 @@ use Rattle.wire.specs.Walk.{stop, item}
 use Rattle.wire.specs.declared.Refusal.{Refusal}
 use Rattle.wire.specs.declared.Cursor.{Cursor}
 use Rattle.wire.proofs.Bytes.{num-lt}
-use Rattle.wire.proofs.Tlv.{tlv-length, tlv-there, tlv-join, tlv-rest, tlv-parts, code-join, code-parts}
+use Rattle.wire.proofs.Tlv.{tlv-length, tlv-there, tlv-join, tlv-rest, tlv-parts, coded-join, coded-parts}
 use Rattle.wire.proofs.Walk.{Takes, Faults, Laws, Tails, onwards, turn, onwards-bad}
 use Rattle.route_mirroring.specs.Grammar.{Tlv, bgpMessage, information, put, GoodInformation, ReadTlv, GoodTail}
 use Rattle.route_mirroring.specs.Shown.{sizeOf, refusedAnswer, places}
@@ -38,7 +38,7 @@ forth-information : (size code : ℕ) (r : List ℕ) → GoodInformation size co
     → (step (put (information size code) r) ≡ item (information size code)) × (drop 6 (put (information size code) r) ≡ r)
 unfolding be
 forth-information size code r g =
-    let j = code-join 1 size code r (lit< tt) (g .size-fits) (omega (arith, g .known)) in (
+    let j = coded-join 1 size code r (lit< tt) (g .size-fits) (omega (arith, g .known)) in (
       whole-info (put (information size code) r) (record { kind-is = j .kind-is; there = omega arith; known = omega (arith, j .code-is, g .known) })
           ∙ (λ i. item (information (j .size-is i) (j .code-is i))),
       refl,
@@ -69,7 +69,7 @@ back s p _ (found-message m) =
     (record { well-formed = b .0; has-header = m .has-header }, b .1)
 back s p _ (found-info i) = (
   record { size-fits = num-lt 2 2 p; known = i .known },
-  subst (λ (k : ℕ). be 2 k ++ (be 2 (numAt 2 s 2) ++ (be 2 (numAt 2 s 4) ++ drop 6 s)) ≡ s) (i .kind-is) (code-parts s p (omega (arith, i .there))),
+  subst (λ (k : ℕ). be 2 k ++ (be 2 (numAt 2 s 2) ++ (be 2 (numAt 2 s 4) ++ drop 6 s)) ≡ s) (i .kind-is) (coded-parts p (omega (arith, i .there))),
 )
 
 pub laws : Laws kit put ReadTlv

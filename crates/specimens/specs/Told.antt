@@ -21,6 +21,12 @@ use Rattle.route_mirroring.specs.declared.RouteMirroringValue.{RouteMirroringVa
 use Rattle.route_mirroring.specs.declared.RouteMirroringValue.the-variants.{BgpMessage, Information}
 use Rattle.route_mirroring.specs.declared.RouteMirroringTlv.{RouteMirroringTlv}
 use Rattle.route_mirroring.specs.declared.RouteMirroringAnswer.{RouteMirroringAnswer}
+use Rattle.termination_message.specs.Shown as Termination
+use Rattle.termination_message.specs.Read.{readTermination}
+use Rattle.termination_message.specs.declared.TerminationTlvValue.{TerminationTlvValue}
+use Rattle.termination_message.specs.declared.TerminationTlvValue.the-variants as Value
+use Rattle.termination_message.specs.declared.TerminationTlv.{TerminationTlv}
+use Rattle.termination_message.specs.declared.TerminationAnswer.{TerminationAnswer}
 
 -- number, place, stop, tail's start and fields; a value that views show is the list of its bytes
 pub record Told : Type 0 where

@@ -95,19 +95,25 @@ tail-parts s p (inr h) =
       rw (num-back 2 2 p (omega (arith, h .0))) (num-back 2 0 p (omega (arith, h .0))),
     )
 
--- ---- a TLV whose value is a code of two bytes, whatever its length says
+-- ---- a TLV whose value is a number of two bytes, whatever its length says
 pub record Coded (kind size code : ℕ) (s : List ℕ) : Type 0 where
   pub kind-is : numAt 2 s 0 ≡ kind
   pub size-is : numAt 2 s 2 ≡ size
   pub code-is : numAt 2 s 4 ≡ code
 
--- in front of the bytes r
-pub code-join : (kind size code : ℕ) (r : List ℕ) → kind < 256 ^ 2 → size < 256 ^ 2 → code < 256 ^ 2
-    → Coded kind size code (be 2 kind ++ (be 2 size ++ (be 2 code ++ r)))
+pub coded-join : (kind size code : ℕ) (r : List ℕ) → kind < 256 ^ 2 → size < 256 ^ 2 → code < 256 ^ 2
+    → Coded kind size code (putTlv (record { kind = kind; size = size; value = be 2 code }) r)
 unfolding be
-code-join kind size code r k z c = record { kind-is = value-be 2 kind k; size-is = value-be 2 size z; code-is = value-be 2 code c }
+coded-join kind size code r k z c = record { kind-is = value-be 2 kind k; size-is = value-be 2 size z; code-is = value-be 2 code c }
 
--- bytes that begin with one
-pub code-parts : (s : List ℕ) → Bytes s → 6 ≤ length s
-    → be 2 (numAt 2 s 0) ++ (be 2 (numAt 2 s 2) ++ (be 2 (numAt 2 s 4) ++ drop 6 s)) ≡ s
-code-parts s p h = rw (num-back 2 4 p (omega arith), num-back 2 2 p (omega arith)) (num-back 2 0 p (omega arith))
+pub coded-length : (kind size code : ℕ) (r : List ℕ) → length (putTlv (record { kind = kind; size = size; value = be 2 code }) r) ≡ 6 + length r
+unfolding be
+coded-length kind size code r = omega arith
+
+pub coded-rest : (kind size code : ℕ) (r : List ℕ) → drop 6 (putTlv (record { kind = kind; size = size; value = be 2 code }) r) ≡ r
+unfolding be
+coded-rest kind size code r = refl
+
+pub coded-parts : {s : List ℕ} → Bytes s → 6 ≤ length s
+    → putTlv (record { kind = numAt 2 s 0; size = numAt 2 s 2; value = be 2 (numAt 2 s 4) }) (drop 6 s) ≡ s
+coded-parts p h = rw (num-back 2 4 p (omega arith), num-back 2 2 p (omega arith)) (num-back 2 0 p (omega arith))

@@ -81,6 +81,24 @@ module _ (K : Kit) (takes : Takes K) (n at : ℕ) (table : List (K .Entry)) (s :
         room = resume-room K n at table s (length s - n) (length s - (n + 1)) one a e;
       }
 
+  -- the same for the entry and the place that a reader has found by other names
+  pub record TurnTo (u : K .Entry) (p : ℕ) : Type 0 where
+    pub moved : at < p
+    pub within : p ≤ length s
+    pub full : K .limit ≤ n → onwards K n at table s ≡ refused (refusal Number.TooMany at)
+    pub room : n < K .limit → onwards K n at table s ≡ onwards K (n + 1) p (set table n u) s
+
+  pub turn-to : (a : K .Item) (u : K .Entry) (p : ℕ) → n ≤ at → at ≤ length s → K .step (drop at s) ≡ item a
+      → K .entry at a ≡ u → at + K .size a ≡ p → TurnTo u p
+  turn-to a u p few h e shown end =
+      let o = turn a few h e in
+      record {
+        moved = rw (← end) (o .moved);
+        within = rw (← end) (o .within);
+        full = o .full;
+        room = λ l. o .room l ∙ rw (shown, end);
+      }
+
 -- ---- the table
 fill-good : (K : Kit) (l : List (K .Item)) (n at k : ℕ) (p : List (K .Entry)) (z : List ℕ) → length p ≡ n → n + k ≡ K .limit → length l ≤ k
     → fill K n at (p ++ replicate k (K .none)) l (tail z)

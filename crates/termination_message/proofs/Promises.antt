@@ -1,0 +1,101 @@
+-- What a user of the Termination body relies on. Assumes nothing.
+use mathlib.Core.Path.{_≡_, refl, sym, _∙_, subst}
+use mathlib.Core.Bool.{Bool, true, false}
+use mathlib.Core.List.{List}
+use Prim.Native.Nat.{ℕ, _≤_, _<_}
+use native.Mathlib.Omega.{arith}
+use borrow.Author.Tests.{ltb-false}
+use lib.Dec.{ltb}
+use lib.ListN.{length-take, length, take, getD}
+use Rattle.wire.specs.Number as Number
+use Rattle.wire.specs.Bytes.{Bytes}
+use Rattle.wire.specs.Parts.{AllAt}
+use Rattle.wire.specs.Tlv.{putTail}
+use Rattle.wire.specs.Walk.{Out, good, refused, readFrom}
+use Rattle.wire.proofs.Determined.{determined}
+use Rattle.wire.proofs.Walk.{read-sound, read-complete, read-fault, each-at}
+use Rattle.wire.proofs.Walk as Walk
+use Rattle.writing.specs.Write.{lengthOf, writeAnswer, written}
+use Rattle.writing.specs.declared.WriteAnswer.{WriteAnswer}
+use Rattle.writing.specs.declared.WriteAnswer.the-variants.{Written}
+use Rattle.writing.proofs.Answers.{front}
+use Rattle.writing.proofs.Table.{length-parts}
+use Rattle.termination_message.specs.Grammar.{sizeOf, Reading, join, Good}
+use Rattle.termination_message.specs.Shown.{typeOf, zeroTlv, places, Fits, shown}
+use Rattle.termination_message.specs.Read.{kit, readTermination}
+use Rattle.termination_message.specs.Write.{writer, kept, readingOf, bytesOf, writable}
+use Rattle.termination_message.specs.declared.TerminationTlvType.{TerminationTlvType}
+use Rattle.termination_message.specs.declared.TerminationTlvValue.{TerminationTlvValue}
+use Rattle.termination_message.specs.declared.TerminationTlv.{TerminationTlv}
+use Rattle.termination_message.specs.declared.TerminationMessage.{TerminationMessage}
+use Rattle.termination_message.specs.declared.TerminationAnswer.{TerminationAnswer}
+use Rattle.termination_message.proofs.Laws.{faults, laws, tails}
+use Rattle.termination_message.proofs.Written.{writes-of}
+use Rattle.termination_message.proofs.Shows.{Shows, shows-of, ValueAt, value-at}
+use Rattle.termination_message.proofs.Trip.{good-of, ReadsBack, reads-back}
+use Rattle.termination_message.proofs.Converse.{Inside, ReasonTwo, bytes-joined, writable-from}
+
+-- What the reader accepts has a good reading that fits, and it shows that reading.
+pub sound : (s : List ℕ) → Bytes s → readTermination s .refusal .number ≡ Number.Good → (r : Reading) × Shows s r
+sound s p e = go (ltb Number.limit (length s)) refl (readFrom kit (length s) 0 s) refl
+  where
+    go : (b : Bool) → ltb Number.limit (length s) ≡ b → (o : Out TerminationTlv) → readFrom kit (length s) 0 s ≡ o → (r : Reading) × Shows s r
+    go true h o k = let q : _≡_ {A = ℕ} 1 0 = (rw h at e) in absurd (omega arith)
+    go false h (refused r) k =
+        let f = read-fault kit faults (length s) 0 s r k in
+        let x : r .number ≡ 0 = (rw (h, k) at e) in
+        absurd (omega arith)
+    go false h (good n at table z) k =
+        let a = read-sound kit laws tails 0 s p n at table z k in
+        (record { tlvs = a .0; tail = a .1 }, shows-of s (ltb-false Number.limit (length s) h) (a .0) (a .1) (a .2))
+
+-- Every good reading that fits is accepted, and shown.
+pub complete : (r : Reading) → Good r → Fits r → length (join r) ≤ Number.limit → readTermination (join r) ≡ shown r
+complete r g f short =
+    shows-of (join r) short (r .tlvs) (r .tail) (read-complete kit laws tails 0 (join r) (r .tlvs) (r .tail) (g .each) (g .tail-good) refl f) .shown-so
+
+-- No input has two readings, whatever the table holds.
+pub unique : (r q : Reading) → Good r → Good q → join r ≡ join q → r ≡ q
+unique r q g h e =
+    let u = Walk.unique kit laws tails (r .tlvs) (q .tlvs) (r .tail) (q .tail) (g .each) (g .tail-good) (h .each) (h .tail-good) e in
+    λ i. record { tlvs = u .0 i; tail = u .1 i }
+
+-- Each TLV's entry, in the answer that shows a good reading, shows its value: a String's view the bytes, a Reason's name the number.
+pub views : (r : Reading) → Good r → AllAt sizeOf (ValueAt (join r)) 0 (r .tlvs)
+views r g = each-at kit laws (ValueAt (join r)) (join r) (value-at (join r)) (r .tlvs) (putTail (r .tail)) 0 (g .each) refl
+
+-- What the writer has written, where the record is writable and there is room, is read back as the same record.
+pub round-trip : (m : TerminationMessage) (b out out′ : List ℕ) (a : WriteAnswer) → Bytes b → length (m .tlvs) ≡ places
+    → a ≡ writeAnswer (writable m (length b)) (length (bytesOf m b)) (length out) → out′ ≡ written (writable m (length b)) (bytesOf m b) out
+    → writable m (length b) ≡ true → length (bytesOf m b) ≤ Number.limit → length (bytesOf m b) ≤ length out
+    → (a ≡ Written (length (bytesOf m b))) × ReadsBack m b (take (lengthOf a) out′)
+round-trip m b out out′ a p long ea eo w short room =
+    let f = front (writable m (length b)) (bytesOf m b) out out′ a ea eo w short room in
+    let x = writes-of m (length b) w in
+    let g = good-of m b p (x .fine) in
+    let n = length-parts writer b (kept m) ∙ length-take (m .count) (m .tlvs) in
+    let a = complete (readingOf m b) g (omega (arith, n, x .few)) short in
+    (f .answer-is, subst (ReadsBack m b) (sym (f .bytes-are)) (reads-back m b long x a (views (readingOf m b) g)))
+
+-- A record whose views lie inside the buffer, whose Reasons have length 2, and whose bytes are read back as itself, is writable.
+pub only-writable : (m : TerminationMessage) (b : List ℕ) → Bytes b → length (m .tlvs) ≡ places
+    → ((i : ℕ) → i < m .count → Inside b (getD (m .tlvs) i zeroTlv)) → ((i : ℕ) → i < m .count → ReasonTwo (getD (m .tlvs) i zeroTlv))
+    → ReadsBack m b (bytesOf m b) → writable m (length b) ≡ true
+only-writable m b p long inside two r =
+    let q = sound (bytesOf m b) (bytes-joined b p (kept m)) (r .read-good) in
+    writable-from m b long inside two (q .0) (q .1) (views (q .0) (q .1 .is-good)) r
+
+-- ---- any two answers, and any two outputs, that the contracts allow are equal
+-- Two types that info_type may tell of the same value are equal.
+pub info-type-determined : (x : TerminationTlvValue) (r q : TerminationTlvType) → r ≡ typeOf x → q ≡ typeOf x → r ≡ q
+info-type-determined x r q = determined
+
+-- Two answers of the reader to the same bytes are equal.
+pub parse-determined : (s : List ℕ) (a b : TerminationAnswer) → a ≡ readTermination s → b ≡ readTermination s → a ≡ b
+parse-determined s a b = determined
+
+-- Two answers of the writer to the same record, buffer and output are equal, and so are the outputs that it leaves.
+pub write-determined : (m : TerminationMessage) (b out : List ℕ) (r q : WriteAnswer) (o p : List ℕ)
+    → r ≡ writeAnswer (writable m (length b)) (length (bytesOf m b)) (length out) → q ≡ writeAnswer (writable m (length b)) (length (bytesOf m b)) (length out)
+    → o ≡ written (writable m (length b)) (bytesOf m b) out → p ≡ written (writable m (length b)) (bytesOf m b) out → (r ≡ q) × (o ≡ p)
+write-determined m b out r q o p er eq eo ep = (determined er eq, determined eo ep)

@@ -1,0 +1,121 @@
+use borrow.Author.Needs.{needs}
+use native.Mathlib.Omega.{arith}
+use denote.Ref.{now}
+use borrow.Author.Tests.{lt-ltb, le-ltb}
+use mathlib.Core.Path.{_≡_, sym, ap, _∙_}
+use Prim.Native.Nat.{_-_, _≤_}
+use lib.ListN.{length, drop}
+use native.Mathlib.Nat.{sub-zero}
+use Rattle.termination_message.specs.Read.{kit, answer, readTermination}
+use Rattle.termination_message.specs.Shown.{places, zeroTable, refusedAnswer}
+use Rattle.termination_message.proofs.Laws.{takes, amiss, onward}
+use Rattle.termination_message.proofs.Steps.{was-stop}
+use Rattle.wire.proofs.Walk.{resume-stop, onwards, TurnTo}
+use Rattle.termination_message.proofs.parse_termination_message.Statement.{statement}
+use Rattle.termination_message.proofs.parse_termination_message.Tie as tie
+use Rattle.wire.specs.Number as Number
+
+abbrev Inv-loop : tie.InvT-loop
+Inv-loop s tlvs₀ count₀ at₀ tlvs count at =
+    ((count ≤ at) × (at ≤ length s)) × ((count ≤ places) × (readTermination s ≡ answer (onwards kit count at tlvs s)))
+
+abbrev μ-loop : tie.MeasureT-loop
+μ-loop s tlvs₀ count₀ at₀ tlvs count at =
+    length s - at
+
+-- after a whole TLV
+onward-at : (c : tie.After-known-told3 Inv-loop μ-loop)
+    → TurnTo kit takes (c .before .before .before .before .loop .count) (c .before .before .before .before .loop .at) (c .before .before .before .before .loop .tlvs) (now (c .before .before .before .before .before .before .before .before .args .s)) (c .before .tlv .given .0 .0) (c .before .tlv .given .0 .1 .0 .at)
+onward-at c = onward _ _ _ _ (c .before .before .before .before .loop .inv .0 .0) (c .before .before .before .before .loop .inv .0 .1) _ _ (sym (c .before .before .before .step-at .ensures) ∙ c .before .tlv .given .1)
+
+fault-requires : tie.Need-fault-requires Inv-loop μ-loop
+fault-requires c κs = search needs
+
+refused-requires : tie.Need-refused-requires Inv-loop μ-loop
+refused-requires c κs = search needs
+
+returns : tie.Need-returns Inv-loop μ-loop
+returns c = rw (lt-ltb Number.limit (length (now (c .before .before .before .before .args .s))) (c .before .before .if1 .taken)) (c .refused .ensures ∙ ap refusedAnswer (c .before .fault .ensures))
+
+zero-tlv-requires : tie.Need-zero-tlv-requires Inv-loop μ-loop
+zero-tlv-requires c κs = search needs
+
+loop-holds : tie.Need-loop-holds Inv-loop μ-loop
+unfolding zeroTable
+loop-holds c = ((omega arith, omega arith), (omega arith, rw (c .zero-tlv .ensures, le-ltb Number.limit (length (now (c .before .before .before .args .s))) (c .before .if1 .left), sub-zero (length (now (c .before .before .before .args .s))))))
+
+step-at-requires : tie.Need-step-at-requires Inv-loop μ-loop
+step-at-requires c κs = search needs
+
+enum-known-place : tie.Need-enum-known-place Inv-loop μ-loop
+enum-known-place c = search needs
+
+enum-known-refusal : tie.Need-enum-known-refusal Inv-loop μ-loop
+enum-known-refusal c = search needs
+
+refused-requires-2 : tie.Need-refused-requires-2 Inv-loop μ-loop
+refused-requires-2 c κs = search needs
+
+returns-2 : tie.Need-returns-2 Inv-loop μ-loop
+returns-2 c = c .refused2 .ensures ∙ sym (c .before .before .before .before .before .loop .inv .1 .1 ∙ amiss _ _ _ _ (c .before .before .before .before .before .loop .inv .0 .0) (c .before .before .before .before .before .loop .inv .0 .1) _ (sym (c .before .before .before .before .step-at .ensures) ∙ c .before .before .refusal .given .1))
+
+enum-known-tlv : tie.Need-enum-known-tlv Inv-loop μ-loop
+enum-known-tlv c = search needs
+
+fault-requires-2 : tie.Need-fault-requires-2 Inv-loop μ-loop
+fault-requires-2 c κs = search needs
+
+refused-requires-3 : tie.Need-refused-requires-3 Inv-loop μ-loop
+refused-requires-3 c κs = search needs
+
+returns-3 : tie.Need-returns-3 Inv-loop μ-loop
+returns-3 c = c .refused3 .ensures ∙ ap refusedAnswer (c .before .fault2 .ensures) ∙ sym (c .before .before .before .before .before .before .before .loop .inv .1 .1 ∙ ap answer (onward-at (c .before .before .before) .full (c .before .before .if2 .taken)))
+
+mul-tlvs : tie.Need-mul-tlvs Inv-loop μ-loop
+mul-tlvs c = search needs
+
+array-set-from-tlvs : tie.Need-array-set-from-tlvs Inv-loop μ-loop
+array-set-from-tlvs c = search needs
+
+add-count : tie.Need-add-count Inv-loop μ-loop
+add-count c = search needs
+
+loop-less : tie.Need-loop-less Inv-loop μ-loop
+loop-less c = let o = onward-at (c .before) in omega arith
+
+loop-again : tie.Need-loop-again Inv-loop μ-loop
+loop-again c =
+    let o = onward-at (c .before) in
+    ((omega arith, o .within), (omega arith, c .before .before .before .before .before .loop .inv .1 .1 ∙ ap answer (o .room (c .if2 .left))))
+
+returns-4 : tie.Need-returns-4 Inv-loop μ-loop
+returns-4 c =
+    let b = was-stop (c .before .before .before .before .loop .at) _ (drop (c .before .before .before .before .loop .at) (now (c .before .before .before .before .before .before .before .before .args .s))) (sym (c .before .before .before .step-at .ensures) ∙ c .before .place .given .1) in
+    rw (c .before .before .before .before .loop .inv .1 .1, resume-stop kit (c .before .before .before .before .loop .count) (c .before .before .before .before .loop .at) (c .before .before .before .before .loop .tlvs) (now (c .before .before .before .before .before .before .before .before .args .s)) (length (now (c .before .before .before .before .before .before .before .before .args .s)) - c .before .before .before .before .loop .count) (b .0), b .1)
+
+pub parse-termination-message-spec : {M : Type 1} → statement M
+parse-termination-message-spec =
+    tie.close
+    (tie.spec
+    Inv-loop
+    μ-loop
+    fault-requires
+    refused-requires
+    returns
+    zero-tlv-requires
+    loop-holds
+    step-at-requires
+    enum-known-place
+    enum-known-refusal
+    refused-requires-2
+    returns-2
+    enum-known-tlv
+    fault-requires-2
+    refused-requires-3
+    returns-3
+    mul-tlvs
+    array-set-from-tlvs
+    add-count
+    loop-less
+    loop-again
+    returns-4)

@@ -1,0 +1,55 @@
+-- What the reader answers, for every input.
+use Prim.Native.Nat.{ℕ, _+_, _-_}
+use mathlib.Core.List.{List}
+use lib.ListN.{length, take, drop}
+use lib.Dec.{leb, ltb, eqb}
+use Rattle.wire.specs.Number as Number
+use Rattle.wire.specs.Bytes.{pick, numAt}
+use Rattle.wire.specs.Read.{refusal, cutAt, cursor}
+use Rattle.wire.specs.Tlv.{stopAt}
+use Rattle.wire.specs.TlvAt.{tailOf}
+use Rattle.wire.specs.Walk as Walk
+use Rattle.wire.specs.Walk.{stop, bad, item, from, Kit, Out, good, refused, readFrom}
+use Rattle.termination_message.specs.Grammar.{Tlv, string, reason, sizeOf}
+use Rattle.termination_message.specs.Shown.{places, entry, zeroTlv, goodAnswer, refusedAnswer}
+use Rattle.termination_message.specs.declared.TerminationTlv.{TerminationTlv}
+use Rattle.termination_message.specs.declared.TerminationAnswer.{TerminationAnswer}
+use Rattle.termination_message.specs.declared.Step.{Step}
+use Rattle.termination_message.specs.declared.Step.the-variants.{Stop, Bad, Whole}
+
+-- the TLVs as they are taken off the front of some bytes, where they are all there
+abbrev pub stringIn : List ℕ → Tlv
+stringIn s = string (numAt 2 s 2) (take (numAt 2 s 2) (drop 4 s))
+
+abbrev pub reasonIn : List ℕ → Tlv
+reasonIn s = reason (numAt 2 s 2) (numAt 2 s 4)
+
+-- while more than 4 bytes are left: the type is judged, then the length; a Reason takes two bytes whatever its length is
+unfoldable pub step : List ℕ → Walk.Step Tlv
+step s =
+    pick (leb (length s) 4) stop
+    (pick (ltb 1 (numAt 2 s 0)) (bad (refusal Number.UnknownKind 0))
+    (pick (ltb (length s - 4) (numAt 2 s 2)) stop
+    (pick (eqb (numAt 2 s 0) 0) (item (stringIn s))
+    (pick (ltb (length s - 4) 2) (bad (cutAt 4))
+    (pick (ltb 4 (numAt 2 s 4)) (bad (refusal Number.UnknownKind 4)) (item (reasonIn s)))))))
+
+abbrev pub kit : Kit
+kit = record { Item = Tlv; Entry = TerminationTlv; step = step; size = sizeOf; entry = entry; none = zeroTlv; limit = places }
+
+-- one step at a place, as the code answers it: the stop, a fault, or the entry and the cursor past it
+abbrev pub told : ℕ → List ℕ → Walk.Step Tlv → Step
+told at s stop = Stop (stopAt at (tailOf s))
+told at s (bad r) = Bad (from at r)
+told at s (item t) = Whole (entry at t) (cursor (at + sizeOf t))
+
+abbrev pub stepAt : List ℕ → ℕ → Step
+stepAt s at = told at (drop at s) (step (drop at s))
+
+abbrev pub answer : Out TerminationTlv → TerminationAnswer
+answer (good n at table z) = goodAnswer n at table (tailOf z)
+answer (refused r) = refusedAnswer r
+
+abbrev pub readTermination : List ℕ → TerminationAnswer
+readTermination s =
+    pick (ltb Number.limit (length s)) (refusedAnswer (refusal Number.TooLong 0)) (answer (readFrom kit (length s) 0 s))

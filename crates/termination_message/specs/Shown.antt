@@ -1,0 +1,78 @@
+-- How a reading is shown in the answer. Nothing here takes an input apart.
+use Prim.Native.Nat.{ℕ, _+_, _-_, _≤_}
+use mathlib.Core.List.{List, [], _∷_, _++_}
+use lib.ListN.{length, replicate, getD}
+use Rattle.wire.specs.Read.{noRefusal}
+use Rattle.wire.specs.View.{view}
+use Rattle.wire.specs.Parts.{shownFrom, endFrom}
+use Rattle.wire.specs.Tlv.{Tail, stopAt}
+use Rattle.wire.specs.declared.Refusal.{Refusal}
+use Rattle.termination_message.specs.Grammar.{Tlv, string, reason, sizeOf, Reading}
+use Rattle.termination_message.specs.declared.TerminationTlvType.{TerminationTlvType}
+use Rattle.termination_message.specs.declared.TerminationTlvValue.{TerminationTlvValue}
+use Rattle.termination_message.specs.declared.TerminationReason.{TerminationReason}
+use Rattle.termination_message.specs.declared.TerminationReason.the-variants.{AdministrativelyClosed, UnspecifiedReason, OutOfResources, RedundantConnection, PermanentlyAdministrativelyClosed}
+use Rattle.termination_message.specs.declared.TerminationTlv.{TerminationTlv}
+use Rattle.termination_message.specs.declared.TerminationAnswer.{TerminationAnswer}
+
+-- a TLV's type is that of its value
+unfoldable pub typeOf : TerminationTlvValue → TerminationTlvType
+typeOf (TerminationTlvValue.String v) = TerminationTlvType.String
+typeOf (TerminationTlvValue.Reason r) = TerminationTlvType.Reason
+
+unfoldable pub kindOf : TerminationTlvType → ℕ
+kindOf TerminationTlvType.String = 0
+kindOf TerminationTlvType.Reason = 1
+
+-- the reasons 0 to 3 by their numbers; 4 is the last, and what is above it is refused before it is named
+abbrev pub names : List TerminationReason
+names = AdministrativelyClosed ∷ UnspecifiedReason ∷ OutOfResources ∷ RedundantConnection ∷ []
+
+unfoldable pub reasonOf : ℕ → TerminationReason
+reasonOf n = getD names n PermanentlyAdministrativelyClosed
+
+unfoldable pub codeOf : TerminationReason → ℕ
+codeOf AdministrativelyClosed = 0
+codeOf UnspecifiedReason = 1
+codeOf OutOfResources = 2
+codeOf RedundantConnection = 3
+codeOf PermanentlyAdministrativelyClosed = 4
+
+-- a String whose value starts at a place, and a Reason by its number
+abbrev pub stringEntry : ℕ → ℕ → TerminationTlv
+stringEntry size place = record { «info_len» = size; «info_value» = TerminationTlvValue.String (view place size) }
+
+abbrev pub reasonEntry : ℕ → ℕ → TerminationTlv
+reasonEntry size code = record { «info_len» = size; «info_value» = TerminationTlvValue.Reason (reasonOf code) }
+
+abbrev pub zeroTlv : TerminationTlv
+zeroTlv = stringEntry 0 0
+
+-- the table has 32 entries
+abbrev pub places : ℕ
+places = 32
+
+unfoldable pub zeroTable : List TerminationTlv
+zeroTable = replicate places zeroTlv
+
+-- a TLV as the table shows it, where it starts at a place
+abbrev pub entry : ℕ → Tlv → TerminationTlv
+entry at (string size value) = stringEntry size (at + 4)
+entry at (reason size code) = reasonEntry size code
+
+abbrev pub goodAnswer : ℕ → ℕ → List TerminationTlv → Tail → TerminationAnswer
+goodAnswer count end table t =
+    record { refusal = noRefusal; stop = stopAt end t; tail = end; message = record { tlvs = table; count = count } }
+
+abbrev pub refusedAnswer : Refusal → TerminationAnswer
+refusedAnswer r = record { refusal = r; stop = 0; tail = 0; message = record { tlvs = zeroTable; count = 0 } }
+
+-- a reading fits the table
+abbrev pub Fits : Reading → Type 0
+Fits r = length (r .tlvs) ≤ places
+
+-- the good answer: the TLVs in order, entries past the count zero, the tail's start where the last TLV ends
+abbrev pub shown : Reading → TerminationAnswer
+shown r =
+    goodAnswer (length (r .tlvs)) (endFrom sizeOf 0 (r .tlvs))
+    (shownFrom sizeOf entry 0 (r .tlvs) ++ replicate (places - length (r .tlvs)) zeroTlv) (r .tail)
