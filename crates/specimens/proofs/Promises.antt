@@ -11,6 +11,8 @@ use Rattle.peer_down_notification.specs.Shown as PeerDown
 use Rattle.peer_down_notification.specs.Read.{hasData}
 use Rattle.route_mirroring.specs.Shown as Mirroring
 use Rattle.route_mirroring.specs.Read as MirroringRead
+use Rattle.termination_message.specs.Shown as Termination
+use Rattle.termination_message.specs.Read as TerminationRead
 use Rattle.specimens.specs.Told.{Told, told}
 use Rattle.specimens.specs.List.{Specimen, specimens}
 
@@ -22,5 +24,5 @@ expected x = x .answer
 
 -- One theorem over the whole list.
 pub specimens-hold : map answered specimens ≡ map expected specimens
-unfolding value walk fill readFields Common.typeOf Common.kindOf step Initiation.typeOf Initiation.kindOf Initiation.zeroTable PeerDown.reasonOf PeerDown.kindOf hasData MirroringRead.step MirroringRead.messageStep MirroringRead.informationStep Mirroring.infoOf Mirroring.zeroTable Mirroring.codeOf
+unfolding value walk fill readFields Common.typeOf Common.kindOf step Initiation.typeOf Initiation.kindOf Initiation.zeroTable PeerDown.reasonOf PeerDown.kindOf hasData MirroringRead.step MirroringRead.messageStep MirroringRead.informationStep Mirroring.infoOf Mirroring.zeroTable Mirroring.codeOf TerminationRead.step Termination.reasonOf Termination.codeOf Termination.zeroTable
 specimens-hold = refl

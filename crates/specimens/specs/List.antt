@@ -2,7 +2,7 @@
 use Prim.Native.Nat.{ℕ}
 use mathlib.Core.List.{List, [], _∷_}
 use Rattle.wire.specs.Number as Number
-use Rattle.specimens.specs.Told.{Told, number, Reader, common, initiation, peer-down, mirroring}
+use Rattle.specimens.specs.Told.{Told, number, Reader, common, initiation, termination, peer-down, mirroring}
 
 pub record Specimen : Type 0 where
   pub reader : Reader
@@ -32,6 +32,8 @@ specimens =
     ∷ record { reader = initiation; bytes = 0 ∷ 2 ∷ 0 ∷ 1 ∷ 65 ∷ []; answer = good 5 5 (number 2 ∷ number 1 ∷ (65 ∷ []) ∷ []) }
     -- 0002 0005 41: none, since its length is beyond the rest
     ∷ record { reader = initiation; bytes = 0 ∷ 2 ∷ 0 ∷ 5 ∷ 65 ∷ []; answer = good 4 0 [] }
+    -- 0001 0001 03: a Reason takes two bytes, whatever its length says
+    ∷ record { reader = termination; bytes = 0 ∷ 1 ∷ 0 ∷ 1 ∷ 3 ∷ []; answer = refused Number.Cut 4 [] }
     -- 0001 0007 0001: information 1, with its length as it stands
     ∷ record { reader = mirroring; bytes = 0 ∷ 1 ∷ 0 ∷ 7 ∷ 0 ∷ 1 ∷ []; answer = good 6 6 (number 1 ∷ number 7 ∷ number 1 ∷ []) }
     -- 0002 0000 00: no such type

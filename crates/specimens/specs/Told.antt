@@ -24,7 +24,6 @@ use Rattle.route_mirroring.specs.declared.RouteMirroringAnswer.{RouteMirroringA
 use Rattle.termination_message.specs.Shown as Termination
 use Rattle.termination_message.specs.Read.{readTermination}
 use Rattle.termination_message.specs.declared.TerminationTlvValue.{TerminationTlvValue}
-use Rattle.termination_message.specs.declared.TerminationTlvValue.the-variants as Value
 use Rattle.termination_message.specs.declared.TerminationTlv.{TerminationTlv}
 use Rattle.termination_message.specs.declared.TerminationAnswer.{TerminationAnswer}
 
@@ -42,6 +41,7 @@ number n = n ∷ []
 pub data Reader : Type 0 where
   common : Reader
   initiation : Reader
+  termination : Reader
   peer-down : Reader
   mirroring : Reader
 
@@ -69,6 +69,25 @@ toldInitiation s a =
       stop = a .stop;
       tail = a .tail;
       fields = toldTlvs s (take (a .message .count) (a .message .tlvs));
+    }
+
+-- of each TLV below the count type, length, and the string's bytes or the reason's number
+abbrev pub toldEnding : List ℕ → TerminationTlvValue → ℕ → List (List ℕ) → List (List ℕ)
+toldEnding s (TerminationTlvValue.String v) size l = number 0 ∷ number size ∷ viewed s v ∷ l
+toldEnding s (TerminationTlvValue.Reason r) size l = number 1 ∷ number size ∷ number (Termination.codeOf r) ∷ l
+
+abbrev pub toldEndings : List ℕ → List TerminationTlv → List (List ℕ)
+toldEndings s [] = []
+toldEndings s (t ∷ l) = toldEnding s (t .«info_value») (t .«info_len») (toldEndings s l)
+
+abbrev pub toldTermination : List ℕ → TerminationAnswer → Told
+toldTermination s a =
+    record {
+      number = a .refusal .number;
+      place = a .refusal .place;
+      stop = a .stop;
+      tail = a .tail;
+      fields = toldEndings s (take (a .message .count) (a .message .tlvs));
     }
 
 -- the reason, whether there is data (1 or 0), and the data
@@ -110,3 +129,4 @@ told common s = toldCommon (readCommonHeader s)
 told initiation s = toldInitiation s (readInitiation s)
 told peer-down s = toldPeerDown s (readPeerDown s)
 told mirroring s = toldMirroring s (readMirroring s)
+told termination s = toldTermination s (readTermination s)
