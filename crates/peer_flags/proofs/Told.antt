@@ -1,0 +1,37 @@
+-- The flag that a family or an AS length comes from. Assumes nothing.
+use Prim.Native.Nat.{ℕ}
+use mathlib.Core.Bool.{Bool, true, false}
+use mathlib.Core.Path.{_≡_, refl}
+use Rattle.wire.specs.Bytes.{pick}
+use Rattle.models.specs.declared.Afi.the-variants.{Ipv4, Ipv6}
+use Rattle.models.specs.declared.AsnLength.the-variants.{Bits16, Bits32}
+use Rattle.peer_flags.specs.Flags.{flagV, flagA, addressFamily, asnLength}
+
+module _ (flags : ℕ) where
+  pub ipv6-flag : Ipv6 ≡ addressFamily flags → flagV flags ≡ true
+  ipv6-flag e = go (flagV flags) e
+    where
+      go : (b : Bool) → Ipv6 ≡ pick b Ipv6 Ipv4 → b ≡ true
+      go true q = refl
+      go false q = cc
+
+  pub ipv4-flag : Ipv4 ≡ addressFamily flags → flagV flags ≡ false
+  ipv4-flag e = go (flagV flags) e
+    where
+      go : (b : Bool) → Ipv4 ≡ pick b Ipv6 Ipv4 → b ≡ false
+      go true q = cc
+      go false q = refl
+
+  pub bits16-flag : Bits16 ≡ asnLength flags → flagA flags ≡ true
+  bits16-flag e = go (flagA flags) e
+    where
+      go : (b : Bool) → Bits16 ≡ pick b Bits16 Bits32 → b ≡ true
+      go true q = refl
+      go false q = cc
+
+  pub bits32-flag : Bits32 ≡ asnLength flags → flagA flags ≡ false
+  bits32-flag e = go (flagA flags) e
+    where
+      go : (b : Bool) → Bits32 ≡ pick b Bits16 Bits32 → b ≡ false
+      go true q = cc
+      go false q = refl

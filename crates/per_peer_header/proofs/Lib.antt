@@ -1,0 +1,3 @@
+pub mod Warned
+pub mod Fields
+pub mod Written

@@ -1,0 +1,122 @@
+-- What the writer writes: which headers are writable, and the bytes of one field after the other. Assumes nothing.
+use Prim.Native.Nat.{ℕ, _+_, _-_, _/_, _%_, _^_, _≤_, _<_}
+use mathlib.Core.Bool.{Bool, true, false, and-eq-true-iff}
+use mathlib.Core.Path.{_≡_, refl, sym, ap, _∙_}
+use mathlib.Core.List.{List, [], _++_}
+use native.Mathlib.Nat.{mod-lt}
+use native.Mathlib.Omega.{arith}
+use borrow.Author.Tests.{eqb-true}
+use lib.Dec.{eqb, lit<}
+use lib.ListN.{length, take, drop, length-append, length-drop}
+use lib.Seq.{sets}
+use Rattle.wire.specs.Bytes.{pick, be}
+use Rattle.wire.proofs.Bytes.{length-be, be-split}
+use Rattle.writing.specs.Write.{putAt}
+use Rattle.writing.proofs.Sets.{put-then, put-fits, length-put}
+use Rattle.models.specs.Address.{sameAddress}
+use Rattle.models.specs.declared.IpAddr.{IpAddr}
+use Rattle.models.proofs.Promises.{equals-is-equality}
+use Rattle.peer_flags.specs.Flags.{flagV, flagA}
+use Rattle.per_peer_header.specs.Grammar.{AddressField, ipv4, ipv6, unused, AsField, as16, as32, addressBytes, asBytes, AsFits}
+use Rattle.per_peer_header.specs.Warnings.{isLocRib}
+use Rattle.per_peer_header.specs.Shown.{kindOf, shownAddress, shownAsn}
+use Rattle.per_peer_header.specs.Read.{addressField, asField}
+use Rattle.per_peer_header.specs.Write.{addressOf, asOf, blankAddress, blankAs, bytesOf, addressFits, asFits, timeFits, writable}
+use Rattle.per_peer_header.specs.declared.BmpPerPeerHeader.{BmpPerPeerHeader}
+
+-- ---- what `writable` asks
+pub record Writable (h : BmpPerPeerHeader) : Type 0 where
+  pub address-is : shownAddress (addressOf h) ≡ h .«peer_ip»
+  pub asn-is : shownAsn (asOf h) ≡ h .«peer_asn» .0
+  pub time-is : timeFits h ≡ true
+
+pub writable-is : (h : BmpPerPeerHeader) → writable h ≡ true → Writable h
+writable-is h e =
+    let both = and-eq-true-iff (addressFits h) _ .0 e in
+    let rest = and-eq-true-iff (asFits h) (timeFits h) .0 (both .1) in
+    record {
+      address-is = equals-is-equality (shownAddress (addressOf h)) (h .«peer_ip») .0 (both .0);
+      asn-is = eqb-true (shownAsn (asOf h)) (h .«peer_asn» .0) (rest .0);
+      time-is = rest .1;
+    }
+
+-- ---- an AS taken apart fits its field
+pub as-fits : (kind flags number : ℕ) → number < 256 ^ 4 → AsFits (asField kind flags number)
+as-fits kind flags number h = go (isLocRib kind) (flagA flags)
+  where
+    go : (a b : Bool) → AsFits (pick a (as32 number) (pick b (as16 (number / 256 ^ 2) (number % 256 ^ 2)) (as32 number)))
+    go true b = h
+    go false true = (omega arith, mod-lt number (lit< tt))
+    go false false = h
+
+-- ---- the bytes that are written are those that are shown
+written-address : (a : AddressField) → addressBytes (blankAddress a) ≡ shownAddress a .octets
+written-address (ipv4 skipped address) = refl
+written-address (ipv6 address) = refl
+written-address (unused skipped) = refl
+
+written-as : (a : AsField) → AsFits a → asBytes (blankAs a) ≡ be 4 (shownAsn a)
+written-as (as16 skipped number) fits =
+    let high : number / 256 ^ 2 ≡ 0 = omega (arith, fits .1) in
+    let low : number % 256 ^ 2 ≡ number = omega (arith, fits .1) in
+    sym (be-split 2 2 number (omega (arith, fits .1)) ∙ (λ i. be 2 (high i) ++ be 2 (low i)))
+written-as (as32 number) fits = refl
+
+-- ---- and the fields of a header stand one after the other
+abbrev pub fieldBytes : ℕ → ℕ → ℕ → List ℕ → ℕ → ℕ → ℕ → ℕ → List ℕ
+fieldBytes kind flags distinguisher octets asn id seconds microseconds =
+    be 1 kind ++ (be 1 flags ++ (be 8 distinguisher ++ (octets ++ (be 4 asn ++ (be 4 id ++ (be 4 seconds ++ be 4 microseconds))))))
+
+abbrev pub fieldsOf : BmpPerPeerHeader → List ℕ
+fieldsOf h =
+    fieldBytes (kindOf (h .«peer_type»)) (h .«peer_flags» .0) (h .«peer_distinguisher» .0) (h .«peer_ip» .octets) (h .«peer_asn» .0)
+    (h .«peer_bgp_id» .0) (h .seconds) (h .microseconds)
+
+pub written-fields : (h : BmpPerPeerHeader) → writable h ≡ true → h .«peer_asn» .0 < 256 ^ 4 → bytesOf h ≡ fieldsOf h
+unfolding be
+written-fields h e small =
+    let w = writable-is h e in
+    let octets : addressBytes (blankAddress (addressOf h)) ≡ h .«peer_ip» .octets =
+    written-address (addressOf h) ∙ ap (λ (a : IpAddr). a .octets) (w .address-is) in
+    let asn : asBytes (blankAs (asOf h)) ≡ be 4 (h .«peer_asn» .0) =
+    written-as (asOf h) (as-fits (kindOf (h .«peer_type»)) (h .«peer_flags» .0) (h .«peer_asn» .0) small) ∙ ap (be 4) (w .asn-is) in
+    λ i.
+    be 1 (kindOf (h .«peer_type»)) ++ (be 1 (h .«peer_flags» .0) ++ (be 8 (h .«peer_distinguisher» .0) ++ (octets i ++ (asn i ++
+    (be 4 (h .«peer_bgp_id» .0) ++ (be 4 (h .seconds) ++ be 4 (h .microseconds)))))))
+
+length-fields : (kind flags distinguisher : ℕ) (octets : List ℕ) (asn id seconds microseconds : ℕ) → length octets ≡ 16
+    → length (fieldBytes kind flags distinguisher octets asn id seconds microseconds) ≡ 42
+unfolding be
+length-fields kind flags distinguisher octets asn id seconds microseconds sixteen =
+    let n = length-append octets (be 4 asn ++ (be 4 id ++ (be 4 seconds ++ be 4 microseconds))) in
+    omega arith
+
+pub length-written : (h : BmpPerPeerHeader) → length (h .«peer_ip» .octets) ≡ 16 → h .«peer_asn» .0 < 256 ^ 4
+    → writable h ≡ true → length (bytesOf h) ≡ 42
+length-written h sixteen small e = ap length (written-fields h e small) ∙ length-fields _ _ _ (h .«peer_ip» .octets) _ _ _ _ sixteen
+
+-- ---- one put after the other
+pub put-fields : (out o1 o2 o3 o4 o5 o6 o7 o8 octets : List ℕ) (kind flags distinguisher asn id seconds microseconds : ℕ)
+    → length octets ≡ 16 → 42 ≤ length out
+    → o1 ≡ putAt out 0 (be 1 kind) → o2 ≡ putAt o1 1 (be 1 flags) → o3 ≡ putAt o2 2 (be 8 distinguisher)
+    → o4 ≡ putAt o3 10 octets → o5 ≡ putAt o4 26 (be 4 asn) → o6 ≡ putAt o5 30 (be 4 id)
+    → o7 ≡ putAt o6 34 (be 4 seconds) → o8 ≡ putAt o7 38 (be 4 microseconds)
+    → o8 ≡ sets out 0 (fieldBytes kind flags distinguisher octets asn id seconds microseconds)
+unfolding be
+put-fields out o1 o2 o3 o4 o5 o6 o7 o8 octets kind flags distinguisher asn id seconds microseconds sixteen long e1 e2 e3 e4 e5 e6 e7 e8 =
+    let a2 = be 1 kind ++ be 1 flags in
+    let a3 = a2 ++ be 8 distinguisher in
+    let a4 = a3 ++ octets in
+    let b6 = be 4 asn ++ be 4 id in
+    let b7 = b6 ++ be 4 seconds in
+    let b8 = b7 ++ be 4 microseconds in
+    let p2 = put-then out o1 o2 0 1 (be 1 kind) (be 1 flags) (omega arith) e1 refl e2 in
+    let p3 = put-then out o2 o3 0 2 a2 (be 8 distinguisher) (omega arith) p2 refl e3 in
+    let p4 = put-then out o3 o4 0 10 a3 octets (omega arith) p3 refl e4 in
+    let same : length o4 ≡ length out = ap length p4 ∙ length-put out 0 a4 in
+    let q6 = put-then o4 o5 o6 26 30 (be 4 asn) (be 4 id) (omega arith) e5 refl e6 in
+    let q7 = put-then o4 o6 o7 26 34 b6 (be 4 seconds) (omega arith) q6 refl e7 in
+    let q8 = put-then o4 o7 o8 26 38 b7 (be 4 microseconds) (omega arith) q7 refl e8 in
+    let whole = length-fields kind flags distinguisher octets asn id seconds microseconds sixteen in
+    put-then out o4 o8 0 26 a4 b8 (omega arith) p4 (omega arith) q8
+    ∙ put-fits out 0 (fieldBytes kind flags distinguisher octets asn id seconds microseconds) (omega arith)

@@ -1,0 +1,357 @@
+// The per-peer header of a BMP message, which says whose numbers the message carries (RFC 7854, section 4.2).
+use models::Afi;
+use models::Asn;
+use models::AsnLength;
+use models::BgpIdentifier;
+use models::IpAddr;
+use models::PeerDistinguisher;
+use peer_flags::BmpPeerType;
+use peer_flags::PerPeerFlags;
+use wire::Refusal;
+use writing::WriteAnswer;
+ghost use mathlib.Core.Path.{_≡_};
+ghost use mathlib.Core.Bool.{true, not, _&&_};
+ghost use Prim.Native.Nat.{_≤_, _+_};
+ghost use lib.Dec.{eqb};
+ghost use lib.ListN.{length};
+ghost use lib.Seq.{sets};
+ghost use Rattle.wire.specs.Bytes.{pick};
+ghost use Rattle.layout.specs.Layout.{cutIn};
+ghost use Rattle.writing.specs.Write.{writeAnswer, written};
+ghost use Rattle.per_peer_header.specs.Grammar.{widths};
+ghost use Rattle.per_peer_header.specs.Warnings.{zeroFilled, warningsOf, countOnes};
+ghost use Rattle.per_peer_header.specs.Shown.{typeOf, kindOf, shownAddress, shownAsn, shown, refused};
+ghost use Rattle.per_peer_header.specs.Read.{addressField, asField, partsOf, readPerPeerHeader};
+ghost use Rattle.per_peer_header.specs.Write.{writable, bytesOf};
+ghost use Rattle.per_peer_header.specs.Header.{afiOf, asnLengthOf, peerTime, sameHeader, stripped};
+
+// The time as the Rust has it, and beside it the two words that it comes from.
+pub struct BmpPerPeerHeader {
+    pub peer_type: BmpPeerType,
+    pub peer_flags: PerPeerFlags,
+    pub peer_distinguisher: PeerDistinguisher,
+    pub peer_ip: IpAddr,
+    pub peer_asn: Asn,
+    pub peer_bgp_id: BgpIdentifier,
+    pub timestamp: f64,
+    pub seconds: u32,
+    pub microseconds: u32,
+}
+
+pub enum PeerTime {
+    Unavailable,
+    At(f64),
+}
+
+impl BmpPerPeerHeader {
+    pub fn afi(self) -> Afi
+        ensures { λ r. ⌜ r ≡ afiOf self ⌝ }
+    {
+        let peer_ip = self.peer_ip;
+        peer_ip.afi
+    }
+
+    pub fn asn_length(self) -> AsnLength
+        ensures { λ r. ⌜ r ≡ asnLengthOf self ⌝ }
+    {
+        let peer_type = self.peer_type;
+        if kind_of(peer_type) == 3 {
+            return AsnLength::Bits32;
+        }
+        let peer_flags = self.peer_flags;
+        peer_flags.asn_length()
+    }
+
+    pub fn peer_time(self) -> PeerTime
+        ensures { λ r. ⌜ r ≡ peerTime self ⌝ }
+    {
+        if self.seconds != 0 {
+            return PeerTime::At(self.timestamp);
+        }
+        if self.microseconds != 0 {
+            return PeerTime::At(self.timestamp);
+        }
+        PeerTime::Unavailable
+    }
+
+    // As in the Rust two headers with one time are equal whatever words it comes from.
+    pub fn equals(self, other: BmpPerPeerHeader) -> bool
+        ensures { λ r. ⌜ r ≡ sameHeader self other ⌝ }
+    {
+        let peer_type = self.peer_type;
+        let other_type = other.peer_type;
+        let peer_ip = self.peer_ip;
+        let other_ip = other.peer_ip;
+        if kind_of(peer_type) != kind_of(other_type) {
+            return false;
+        }
+        if self.peer_flags.0 != other.peer_flags.0 {
+            return false;
+        }
+        if self.peer_distinguisher.0 != other.peer_distinguisher.0 {
+            return false;
+        }
+        if !peer_ip.equals(other_ip) {
+            return false;
+        }
+        if self.peer_asn.0 != other.peer_asn.0 {
+            return false;
+        }
+        if self.peer_bgp_id.0 != other.peer_bgp_id.0 {
+            return false;
+        }
+        self.timestamp == other.timestamp
+    }
+
+    // To compare headers whose times do not matter.
+    pub fn strip_timestamp(self) -> BmpPerPeerHeader
+        ensures { λ r. ⌜ r ≡ stripped self ⌝ }
+    {
+        let mut header = self;
+        header.timestamp = 0.0;
+        header.seconds = 0;
+        header.microseconds = 0;
+        header
+    }
+}
+
+// How many warnings a word has: each is a bit of it.
+pub fn warning_count(warnings: u32) -> u32
+    ensures { λ r. ⌜ r ≡ countOnes 32 warnings ⌝ }
+{
+    u32::count_ones(warnings)
+}
+
+// The header, the place after it and the warnings; where it is refused, the refusal and zeros.
+pub struct PerPeerHeaderAnswer {
+    pub refusal: Refusal,
+    pub stop: usize,
+    pub warnings: u32,
+    pub header: BmpPerPeerHeader,
+}
+
+// The bits of the warnings (docs/RULES.md, "Warnings").
+const STRAY_ADDRESS: u32 = 1;
+
+const NO_ROUTER_ID: u32 = 2;
+
+pub fn parse_per_peer_header(s: &[u8]) -> PerPeerHeaderAnswer
+    ensures { λ r. ⌜ r ≡ readPerPeerHeader (now (s .entry)) ⌝ }
+{
+    if wire::LIMIT < s.len() {
+        return refused_with(Refusal {
+            number: wire::TOO_LONG,
+            place: 0,
+        });
+    }
+    if 3 < wire::u8_at(s, 0) {
+        return refused_with(Refusal {
+            number: wire::UNKNOWN_KIND,
+            place: 0,
+        });
+    }
+    if s.len() < 42 {
+        return refused_with(cut(s.len()));
+    }
+    read_header(s)
+}
+
+fn cut(length: usize) -> Refusal
+    ensures { λ r. ⌜ r ≡ cutIn widths 0 length ⌝ }
+{
+    let widths = [1usize, 1, 8, 16, 4, 4, 4, 4];
+    layout::cut_in(&widths, 0, length)
+}
+
+fn refused_with(refusal: Refusal) -> PerPeerHeaderAnswer
+    ensures { λ r. ⌜ r ≡ refused refusal ⌝ }
+{
+    let header = BmpPerPeerHeader {
+        peer_type: BmpPeerType::Global,
+        peer_flags: PerPeerFlags(0),
+        peer_distinguisher: PeerDistinguisher(0),
+        peer_ip: IpAddr::unspecified(),
+        peer_asn: Asn(0),
+        peer_bgp_id: BgpIdentifier(0),
+        timestamp: 0.0,
+        seconds: 0,
+        microseconds: 0,
+    };
+    PerPeerHeaderAnswer {
+        refusal: refusal,
+        stop: 0,
+        warnings: 0,
+        header: header,
+    }
+}
+
+fn read_header(s: &[u8]) -> PerPeerHeaderAnswer
+    requires { ⌜ 42 ≤ length (now s) ⌝ }
+    ensures { λ r. ⌜ r ≡ shown (partsOf (now (s .entry))) ⌝ }
+{
+    let kind = wire::u8_at(s, 0);
+    let flags = PerPeerFlags(wire::u8_at(s, 1));
+    let distinguisher = wire::u64_at(s, 2);
+    let address = layout::sixteen_at(s, 10);
+    let id = wire::u32_at(s, 30);
+    let seconds = wire::u32_at(s, 34);
+    let microseconds = wire::u32_at(s, 38);
+    let header = BmpPerPeerHeader {
+        peer_type: type_of(kind),
+        peer_flags: flags,
+        peer_distinguisher: PeerDistinguisher(distinguisher),
+        peer_ip: shown_address(kind, flags, address),
+        peer_asn: Asn(shown_asn(kind, flags, wire::u32_at(s, 26))),
+        peer_bgp_id: BgpIdentifier(id),
+        timestamp: models::timestamp(seconds, microseconds),
+        seconds: seconds,
+        microseconds: microseconds,
+    };
+    PerPeerHeaderAnswer {
+        refusal: Refusal {
+            number: wire::GOOD,
+            place: 0,
+        },
+        stop: 42,
+        warnings: warnings_of(kind, address, id, distinguisher),
+        header: header,
+    }
+}
+
+fn type_of(kind: u8) -> BmpPeerType
+    ensures { λ r. ⌜ r ≡ typeOf kind ⌝ }
+{
+    match kind {
+        0 => BmpPeerType::Global,
+        1 => BmpPeerType::RD,
+        2 => BmpPeerType::Local,
+        _ => BmpPeerType::LocalRib,
+    }
+}
+
+// The address that the field's sixteen bytes show; nothing else makes one.
+fn shown_address(kind: u8, flags: PerPeerFlags, octets: [u8; 16]) -> IpAddr
+    ensures { λ r. ⌜ r ≡ shownAddress (addressField kind (flags .0) octets) ⌝ }
+{
+    if kind == 3 {
+        return IpAddr::unspecified();
+    }
+    match flags.address_family() {
+        Afi::Ipv6 => IpAddr {
+            octets: octets,
+            afi: Afi::Ipv6,
+        },
+        Afi::Ipv4 => IpAddr {
+            octets: layout::last_four(octets),
+            afi: Afi::Ipv4,
+        },
+    }
+}
+
+// The AS that the number of the field's four bytes shows; nothing else makes one.
+fn shown_asn(kind: u8, flags: PerPeerFlags, number: u32) -> u32
+    ensures { λ r. ⌜ r ≡ shownAsn (asField kind (flags .0) number) ⌝ }
+{
+    if kind == 3 {
+        return number;
+    }
+    match flags.asn_length() {
+        AsnLength::Bits16 => number % 65_536,
+        AsnLength::Bits32 => number,
+    }
+}
+
+fn warnings_of(kind: u8, address: [u8; 16], id: u32, distinguisher: u64) -> u32
+    ensures { λ r. ⌜ r ≡ warningsOf kind address id distinguisher ⌝ }
+{
+    if kind != 3 {
+        return 0;
+    }
+    word_of(is_zero_filled(address), lacks_router_id(id, distinguisher))
+}
+
+fn is_zero_filled(octets: [u8; 16]) -> bool
+    ensures { λ r. ⌜ r ≡ zeroFilled octets ⌝ }
+{
+    let address = IpAddr {
+        octets: octets,
+        afi: Afi::Ipv4,
+    };
+    address.equals(IpAddr::unspecified())
+}
+
+fn lacks_router_id(id: u32, distinguisher: u64) -> bool
+    ensures { λ r. ⌜ r ≡ eqb id 0 && not (eqb distinguisher 0) ⌝ }
+{
+    id == 0 && distinguisher != 0
+}
+
+fn word_of(zero_filled: bool, lacks_router_id: bool) -> u32
+    ensures { λ r. ⌜ r ≡ pick (not «zero_filled») 1 0 + pick «lacks_router_id» 2 0 ⌝ }
+{
+    if zero_filled {
+        if lacks_router_id { NO_ROUTER_ID } else { 0 }
+    } else {
+        if lacks_router_id { STRAY_ADDRESS + NO_ROUTER_ID } else { STRAY_ADDRESS }
+    }
+}
+
+pub fn write_per_peer_header(header: BmpPerPeerHeader, out: &mut [u8]) -> WriteAnswer
+    ensures { λ r. ⌜ r ≡ writeAnswer (writable header) (length (bytesOf header)) (length (now (out .entry))) ⌝ }
+    ensures { λ _. ⌜ now (out .exit) ≡ written (writable header) (bytesOf header) (now (out .entry)) ⌝ }
+{
+    let answer = writing::write_answer(is_writable(header), 42, out.len());
+    let WriteAnswer::Written(_) = answer else {
+        return answer;
+    };
+    put_header(header, out);
+    answer
+}
+
+fn is_writable(header: BmpPerPeerHeader) -> bool
+    ensures { λ r. ⌜ r ≡ writable header ⌝ }
+{
+    let peer_type = header.peer_type;
+    let peer_ip = header.peer_ip;
+    let octets = peer_ip.octets;
+    let kind = kind_of(peer_type);
+    let flags = header.peer_flags;
+    let asn = header.peer_asn.0;
+    if !shown_address(kind, flags, octets).equals(peer_ip) {
+        return false;
+    }
+    if shown_asn(kind, flags, asn) != asn {
+        return false;
+    }
+    models::is_timestamp(header.timestamp, header.seconds, header.microseconds)
+}
+
+fn put_header(header: BmpPerPeerHeader, out: &mut [u8])
+    requires { ⌜ writable header ≡ true ⌝ }
+    requires { ⌜ 42 ≤ length (now out) ⌝ }
+    ensures { λ _. ⌜ now (out .exit) ≡ sets (now (out .entry)) 0 (bytesOf header) ⌝ }
+{
+    let peer_type = header.peer_type;
+    let peer_ip = header.peer_ip;
+    let octets = peer_ip.octets;
+    writing::put_u8(out, 0, kind_of(peer_type));
+    writing::put_u8(out, 1, header.peer_flags.0);
+    writing::put_u64(out, 2, header.peer_distinguisher.0);
+    writing::put_bytes(out, 10, &octets);
+    writing::put_u32(out, 26, header.peer_asn.0);
+    writing::put_u32(out, 30, header.peer_bgp_id.0);
+    writing::put_u32(out, 34, header.seconds);
+    writing::put_u32(out, 38, header.microseconds);
+}
+
+// The number that stands for a type on the wire.
+fn kind_of(peer_type: BmpPeerType) -> u8
+    ensures { λ r. ⌜ r ≡ kindOf «peer_type» ⌝ }
+{
+    match peer_type {
+        BmpPeerType::Global => 0,
+        BmpPeerType::RD => 1,
+        BmpPeerType::Local => 2,
+        BmpPeerType::LocalRib => 3,
+    }
+}
