@@ -1,3 +1,4 @@
 pub mod Warned
 pub mod Fields
 pub mod Written
+pub mod Laws

@@ -16,13 +16,13 @@ use Rattle.writing.proofs.Sets.{put-then, put-fits, length-put}
 use Rattle.models.specs.Address.{sameAddress}
 use Rattle.models.specs.declared.IpAddr.{IpAddr}
 use Rattle.models.proofs.Promises.{equals-is-equality}
-use Rattle.peer_flags.specs.Flags.{flagV, flagA}
+use Rattle.peer.specs.Peer.{kindOf, isLocRib, flagA}
 use Rattle.per_peer_header.specs.Grammar.{AddressField, ipv4, ipv6, unused, AsField, as16, as32, addressBytes, asBytes, AsFits}
-use Rattle.per_peer_header.specs.Warnings.{isLocRib}
-use Rattle.per_peer_header.specs.Shown.{kindOf, shownAddress, shownAsn}
+use Rattle.per_peer_header.specs.Shown.{shownAddress, shownAsn}
 use Rattle.per_peer_header.specs.Read.{addressField, asField}
 use Rattle.per_peer_header.specs.Write.{addressOf, asOf, blankAddress, blankAs, bytesOf, addressFits, asFits, timeFits, writable}
-use Rattle.per_peer_header.specs.declared.BmpPerPeerHeader.{BmpPerPeerHeader}
+use Rattle.peer.specs.declared.BmpPerPeerHeader.{BmpPerPeerHeader}
+use Rattle.per_peer_header.proofs.Fields.{as-fits}
 
 -- ---- what `writable` asks
 pub record Writable (h : BmpPerPeerHeader) : Type 0 where
@@ -40,15 +40,6 @@ writable-is h e =
       time-is = rest .1;
     }
 
--- ---- an AS taken apart fits its field
-pub as-fits : (kind flags number : ℕ) → number < 256 ^ 4 → AsFits (asField kind flags number)
-as-fits kind flags number h = go (isLocRib kind) (flagA flags)
-  where
-    go : (a b : Bool) → AsFits (pick a (as32 number) (pick b (as16 (number / 256 ^ 2) (number % 256 ^ 2)) (as32 number)))
-    go true b = h
-    go false true = (omega arith, mod-lt number (lit< tt))
-    go false false = h
-
 -- ---- the bytes that are written are those that are shown
 written-address : (a : AddressField) → addressBytes (blankAddress a) ≡ shownAddress a .octets
 written-address (ipv4 skipped address) = refl
@@ -62,61 +53,48 @@ written-as (as16 skipped number) fits =
     sym (be-split 2 2 number (omega (arith, fits .1)) ∙ (λ i. be 2 (high i) ++ be 2 (low i)))
 written-as (as32 number) fits = refl
 
--- ---- and the fields of a header stand one after the other
-abbrev pub fieldBytes : ℕ → ℕ → ℕ → List ℕ → ℕ → ℕ → ℕ → ℕ → List ℕ
-fieldBytes kind flags distinguisher octets asn id seconds microseconds =
-    be 1 kind ++ (be 1 flags ++ (be 8 distinguisher ++ (octets ++ (be 4 asn ++ (be 4 id ++ (be 4 seconds ++ be 4 microseconds))))))
+-- ---- the fields of a header, one after the other
+module _ (h : BmpPerPeerHeader) where
+  abbrev front : List ℕ
+  front = be 1 (kindOf (h .«peer_type»)) ++ (be 1 (h .«peer_flags» .0) ++ be 8 (h .«peer_distinguisher» .0))
 
-abbrev pub fieldsOf : BmpPerPeerHeader → List ℕ
-fieldsOf h =
-    fieldBytes (kindOf (h .«peer_type»)) (h .«peer_flags» .0) (h .«peer_distinguisher» .0) (h .«peer_ip» .octets) (h .«peer_asn» .0)
-    (h .«peer_bgp_id» .0) (h .seconds) (h .microseconds)
+  abbrev back : List ℕ
+  back = be 4 (h .«peer_asn» .0) ++ (be 4 (h .«peer_bgp_id» .0) ++ (be 4 (h .seconds) ++ be 4 (h .microseconds)))
 
-pub written-fields : (h : BmpPerPeerHeader) → writable h ≡ true → h .«peer_asn» .0 < 256 ^ 4 → bytesOf h ≡ fieldsOf h
-unfolding be
-written-fields h e small =
-    let w = writable-is h e in
-    let octets : addressBytes (blankAddress (addressOf h)) ≡ h .«peer_ip» .octets =
-    written-address (addressOf h) ∙ ap (λ (a : IpAddr). a .octets) (w .address-is) in
-    let asn : asBytes (blankAs (asOf h)) ≡ be 4 (h .«peer_asn» .0) =
-    written-as (asOf h) (as-fits (kindOf (h .«peer_type»)) (h .«peer_flags» .0) (h .«peer_asn» .0) small) ∙ ap (be 4) (w .asn-is) in
-    λ i.
-    be 1 (kindOf (h .«peer_type»)) ++ (be 1 (h .«peer_flags» .0) ++ (be 8 (h .«peer_distinguisher» .0) ++ (octets i ++ (asn i ++
-    (be 4 (h .«peer_bgp_id» .0) ++ (be 4 (h .seconds) ++ be 4 (h .microseconds)))))))
+  module _ (small : h .«peer_asn» .0 < 256 ^ 4) (w : writable h ≡ true) where
+    written-fields : bytesOf h ≡ front ++ (h .«peer_ip» .octets ++ back)
+    unfolding be
+    written-fields =
+        let is = writable-is h w in
+        let octets : addressBytes (blankAddress (addressOf h)) ≡ h .«peer_ip» .octets =
+        written-address (addressOf h) ∙ ap (λ (a : IpAddr). a .octets) (is .address-is) in
+        let asn : asBytes (blankAs (asOf h)) ≡ be 4 (h .«peer_asn» .0) =
+        written-as (asOf h) (as-fits (kindOf (h .«peer_type»)) (h .«peer_flags» .0) (h .«peer_asn» .0) small) ∙ ap (be 4) (is .asn-is) in
+        λ i. front ++ (octets i ++ (asn i ++ (be 4 (h .«peer_bgp_id» .0) ++ (be 4 (h .seconds) ++ be 4 (h .microseconds)))))
 
-length-fields : (kind flags distinguisher : ℕ) (octets : List ℕ) (asn id seconds microseconds : ℕ) → length octets ≡ 16
-    → length (fieldBytes kind flags distinguisher octets asn id seconds microseconds) ≡ 42
-unfolding be
-length-fields kind flags distinguisher octets asn id seconds microseconds sixteen =
-    let n = length-append octets (be 4 asn ++ (be 4 id ++ (be 4 seconds ++ be 4 microseconds))) in
-    omega arith
+    module _ (sixteen : length (h .«peer_ip» .octets) ≡ 16) where
+      pub length-written : length (bytesOf h) ≡ 42
+      unfolding be
+      length-written = ap length written-fields ∙ (let n = length-append (h .«peer_ip» .octets) back in omega arith)
 
-pub length-written : (h : BmpPerPeerHeader) → length (h .«peer_ip» .octets) ≡ 16 → h .«peer_asn» .0 < 256 ^ 4
-    → writable h ≡ true → length (bytesOf h) ≡ 42
-length-written h sixteen small e = ap length (written-fields h e small) ∙ length-fields _ _ _ (h .«peer_ip» .octets) _ _ _ _ sixteen
-
--- ---- one put after the other
-pub put-fields : (out o1 o2 o3 o4 o5 o6 o7 o8 octets : List ℕ) (kind flags distinguisher asn id seconds microseconds : ℕ)
-    → length octets ≡ 16 → 42 ≤ length out
-    → o1 ≡ putAt out 0 (be 1 kind) → o2 ≡ putAt o1 1 (be 1 flags) → o3 ≡ putAt o2 2 (be 8 distinguisher)
-    → o4 ≡ putAt o3 10 octets → o5 ≡ putAt o4 26 (be 4 asn) → o6 ≡ putAt o5 30 (be 4 id)
-    → o7 ≡ putAt o6 34 (be 4 seconds) → o8 ≡ putAt o7 38 (be 4 microseconds)
-    → o8 ≡ sets out 0 (fieldBytes kind flags distinguisher octets asn id seconds microseconds)
-unfolding be
-put-fields out o1 o2 o3 o4 o5 o6 o7 o8 octets kind flags distinguisher asn id seconds microseconds sixteen long e1 e2 e3 e4 e5 e6 e7 e8 =
-    let a2 = be 1 kind ++ be 1 flags in
-    let a3 = a2 ++ be 8 distinguisher in
-    let a4 = a3 ++ octets in
-    let b6 = be 4 asn ++ be 4 id in
-    let b7 = b6 ++ be 4 seconds in
-    let b8 = b7 ++ be 4 microseconds in
-    let p2 = put-then out o1 o2 0 1 (be 1 kind) (be 1 flags) (omega arith) e1 refl e2 in
-    let p3 = put-then out o2 o3 0 2 a2 (be 8 distinguisher) (omega arith) p2 refl e3 in
-    let p4 = put-then out o3 o4 0 10 a3 octets (omega arith) p3 refl e4 in
-    let same : length o4 ≡ length out = ap length p4 ∙ length-put out 0 a4 in
-    let q6 = put-then o4 o5 o6 26 30 (be 4 asn) (be 4 id) (omega arith) e5 refl e6 in
-    let q7 = put-then o4 o6 o7 26 34 b6 (be 4 seconds) (omega arith) q6 refl e7 in
-    let q8 = put-then o4 o7 o8 26 38 b7 (be 4 microseconds) (omega arith) q7 refl e8 in
-    let whole = length-fields kind flags distinguisher octets asn id seconds microseconds sixteen in
-    put-then out o4 o8 0 26 a4 b8 (omega arith) p4 (omega arith) q8
-    ∙ put-fits out 0 (fieldBytes kind flags distinguisher octets asn id seconds microseconds) (omega arith)
+      -- one put after the other
+      pub put-all : (out o1 o2 o3 o4 o5 o6 o7 o8 : List ℕ) → 42 ≤ length out
+          → o1 ≡ putAt out 0 (be 1 (kindOf (h .«peer_type»))) → o2 ≡ putAt o1 1 (be 1 (h .«peer_flags» .0))
+          → o3 ≡ putAt o2 2 (be 8 (h .«peer_distinguisher» .0)) → o4 ≡ putAt o3 10 (h .«peer_ip» .octets)
+          → o5 ≡ putAt o4 26 (be 4 (h .«peer_asn» .0)) → o6 ≡ putAt o5 30 (be 4 (h .«peer_bgp_id» .0))
+          → o7 ≡ putAt o6 34 (be 4 (h .seconds)) → o8 ≡ putAt o7 38 (be 4 (h .microseconds)) → o8 ≡ sets out 0 (bytesOf h)
+      unfolding be
+      put-all out o1 o2 o3 o4 o5 o6 o7 o8 long e1 e2 e3 e4 e5 e6 e7 e8 =
+          let octets = h .«peer_ip» .octets in
+          let a2 = be 1 (kindOf (h .«peer_type»)) ++ be 1 (h .«peer_flags» .0) in
+          let b6 = be 4 (h .«peer_asn» .0) ++ be 4 (h .«peer_bgp_id» .0) in
+          let b7 = b6 ++ be 4 (h .seconds) in
+          let p2 = put-then out o1 o2 0 1 (be 1 (kindOf (h .«peer_type»))) (be 1 (h .«peer_flags» .0)) (omega arith) e1 refl e2 in
+          let p3 = put-then out o2 o3 0 2 a2 (be 8 (h .«peer_distinguisher» .0)) (omega arith) p2 refl e3 in
+          let p4 = put-then out o3 o4 0 10 front octets (omega arith) p3 refl e4 in
+          let same : length o4 ≡ length out = ap length p4 ∙ length-put out 0 (front ++ octets) in
+          let q6 = put-then o4 o5 o6 26 30 (be 4 (h .«peer_asn» .0)) (be 4 (h .«peer_bgp_id» .0)) (omega arith) e5 refl e6 in
+          let q7 = put-then o4 o6 o7 26 34 b6 (be 4 (h .seconds)) (omega arith) q6 refl e7 in
+          let q8 = put-then o4 o7 o8 26 38 b7 (be 4 (h .microseconds)) (omega arith) q7 refl e8 in
+          let p8 = put-then out o4 o8 0 26 (front ++ octets) back (omega arith) p4 (omega arith) q8 in
+          p8 ∙ ap (putAt out 0) (sym written-fields) ∙ put-fits out 0 (bytesOf h) (omega (arith, length-written))

@@ -3,4 +3,3 @@ pub mod Warnings
 pub mod Shown
 pub mod Read
 pub mod Write
-pub mod Header

@@ -7,9 +7,8 @@ use Rattle.wire.specs.Number as Number
 use Rattle.wire.specs.Bytes.{pick, numAt, numberAt}
 use Rattle.wire.specs.Read.{refusal}
 use Rattle.layout.specs.Layout.{cutIn}
-use Rattle.peer_flags.specs.Flags.{flagV, flagA}
+use Rattle.peer.specs.Peer.{isLocRib, flagV, flagA}
 use Rattle.per_peer_header.specs.Grammar.{widths, AddressField, ipv4, ipv6, unused, AsField, as16, as32, Reading}
-use Rattle.per_peer_header.specs.Warnings.{isLocRib}
 use Rattle.per_peer_header.specs.Shown.{shown, refused}
 use Rattle.per_peer_header.specs.declared.PerPeerHeaderAnswer.{PerPeerHeaderAnswer}
 

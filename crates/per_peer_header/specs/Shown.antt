@@ -11,9 +11,9 @@ use Rattle.models.specs.declared.Afi.the-variants.{Ipv4, Ipv6}
 use Rattle.models.specs.declared.IpAddr.{IpAddr}
 use Rattle.per_peer_header.specs.Grammar.{AddressField, ipv4, ipv6, unused, AsField, as16, as32, Reading}
 use Rattle.per_peer_header.specs.Warnings.{warnings}
-use Rattle.peer_flags.specs.declared.BmpPeerType.{BmpPeerType}
-use Rattle.peer_flags.specs.declared.BmpPeerType.the-variants.{Global, RD, Local, LocalRib}
-use Rattle.per_peer_header.specs.declared.BmpPerPeerHeader.{BmpPerPeerHeader}
+use Rattle.peer.specs.declared.BmpPeerType.{BmpPeerType}
+use Rattle.peer.specs.declared.BmpPeerType.the-variants.{Global, RD, Local, LocalRib}
+use Rattle.peer.specs.declared.BmpPerPeerHeader.{BmpPerPeerHeader}
 use Rattle.per_peer_header.specs.declared.PerPeerHeaderAnswer.{PerPeerHeaderAnswer}
 
 -- the types 0 to 2 by their numbers; 3 is the last, and what is above it is refused before it is named
@@ -22,12 +22,6 @@ names = Global ∷ RD ∷ Local ∷ []
 
 unfoldable pub typeOf : ℕ → BmpPeerType
 typeOf n = getD names n LocalRib
-
-unfoldable pub kindOf : BmpPeerType → ℕ
-kindOf Global = 0
-kindOf RD = 1
-kindOf Local = 2
-kindOf LocalRib = 3
 
 -- an IPv4 address with zeros before its four octets; of a Loc-RIB IPv4 zero, whatever stands in the field
 abbrev pub shownAddress : AddressField → IpAddr

@@ -4,14 +4,12 @@ use mathlib.Core.Bool.{Bool, true, false, not, _&&_}
 use mathlib.Core.List.{List, [], _∷_}
 use lib.Dec.{eqb}
 use Rattle.wire.specs.Bytes.{pick}
+use Rattle.peer.specs.Peer.{isLocRib}
 use Rattle.per_peer_header.specs.Grammar.{Reading, addressBytes}
 
 abbrev pub zeroFilled : List ℕ → Bool
 zeroFilled [] = true
 zeroFilled (b ∷ l) = eqb b 0 && zeroFilled l
-
-abbrev pub isLocRib : ℕ → Bool
-isLocRib kind = eqb kind 3
 
 -- 1: the address of a Loc-RIB is to be zero-filled, and it is not.
 abbrev pub strayAddress : ℕ → List ℕ → Bool

@@ -6,10 +6,11 @@ use lib.Dec.{eqb}
 use lib.ListN.{replicate}
 use Rattle.models.specs.Address.{sameAddress}
 use Rattle.models.specs.Time.{isTimestamp}
+use Rattle.peer.specs.Peer.{kindOf}
 use Rattle.per_peer_header.specs.Grammar.{AddressField, ipv4, ipv6, unused, AsField, as16, as32, Reading, join}
-use Rattle.per_peer_header.specs.Shown.{kindOf, shownAddress, shownAsn}
+use Rattle.per_peer_header.specs.Shown.{shownAddress, shownAsn}
 use Rattle.per_peer_header.specs.Read.{addressField, asField}
-use Rattle.per_peer_header.specs.declared.BmpPerPeerHeader.{BmpPerPeerHeader}
+use Rattle.peer.specs.declared.BmpPerPeerHeader.{BmpPerPeerHeader}
 
 -- the fields of a header's own address and AS
 abbrev pub addressOf : BmpPerPeerHeader → AddressField

@@ -5,8 +5,9 @@ use models::AsnLength;
 use models::BgpIdentifier;
 use models::IpAddr;
 use models::PeerDistinguisher;
-use peer_flags::BmpPeerType;
-use peer_flags::PerPeerFlags;
+use peer::BmpPeerType;
+use peer::BmpPerPeerHeader;
+use peer::PerPeerFlags;
 use wire::Refusal;
 use writing::WriteAnswer;
 ghost use mathlib.Core.Path.{_≡_};
@@ -20,100 +21,9 @@ ghost use Rattle.layout.specs.Layout.{cutIn};
 ghost use Rattle.writing.specs.Write.{writeAnswer, written};
 ghost use Rattle.per_peer_header.specs.Grammar.{widths};
 ghost use Rattle.per_peer_header.specs.Warnings.{zeroFilled, warningsOf, countOnes};
-ghost use Rattle.per_peer_header.specs.Shown.{typeOf, kindOf, shownAddress, shownAsn, shown, refused};
+ghost use Rattle.per_peer_header.specs.Shown.{typeOf, shownAddress, shownAsn, shown, refused};
 ghost use Rattle.per_peer_header.specs.Read.{addressField, asField, partsOf, readPerPeerHeader};
 ghost use Rattle.per_peer_header.specs.Write.{writable, bytesOf};
-ghost use Rattle.per_peer_header.specs.Header.{afiOf, asnLengthOf, peerTime, sameHeader, stripped};
-
-// The time as the Rust has it, and beside it the two words that it comes from.
-pub struct BmpPerPeerHeader {
-    pub peer_type: BmpPeerType,
-    pub peer_flags: PerPeerFlags,
-    pub peer_distinguisher: PeerDistinguisher,
-    pub peer_ip: IpAddr,
-    pub peer_asn: Asn,
-    pub peer_bgp_id: BgpIdentifier,
-    pub timestamp: f64,
-    pub seconds: u32,
-    pub microseconds: u32,
-}
-
-pub enum PeerTime {
-    Unavailable,
-    At(f64),
-}
-
-impl BmpPerPeerHeader {
-    pub fn afi(self) -> Afi
-        ensures { λ r. ⌜ r ≡ afiOf self ⌝ }
-    {
-        let peer_ip = self.peer_ip;
-        peer_ip.afi
-    }
-
-    pub fn asn_length(self) -> AsnLength
-        ensures { λ r. ⌜ r ≡ asnLengthOf self ⌝ }
-    {
-        let peer_type = self.peer_type;
-        if kind_of(peer_type) == 3 {
-            return AsnLength::Bits32;
-        }
-        let peer_flags = self.peer_flags;
-        peer_flags.asn_length()
-    }
-
-    pub fn peer_time(self) -> PeerTime
-        ensures { λ r. ⌜ r ≡ peerTime self ⌝ }
-    {
-        if self.seconds != 0 {
-            return PeerTime::At(self.timestamp);
-        }
-        if self.microseconds != 0 {
-            return PeerTime::At(self.timestamp);
-        }
-        PeerTime::Unavailable
-    }
-
-    // As in the Rust two headers with one time are equal whatever words it comes from.
-    pub fn equals(self, other: BmpPerPeerHeader) -> bool
-        ensures { λ r. ⌜ r ≡ sameHeader self other ⌝ }
-    {
-        let peer_type = self.peer_type;
-        let other_type = other.peer_type;
-        let peer_ip = self.peer_ip;
-        let other_ip = other.peer_ip;
-        if kind_of(peer_type) != kind_of(other_type) {
-            return false;
-        }
-        if self.peer_flags.0 != other.peer_flags.0 {
-            return false;
-        }
-        if self.peer_distinguisher.0 != other.peer_distinguisher.0 {
-            return false;
-        }
-        if !peer_ip.equals(other_ip) {
-            return false;
-        }
-        if self.peer_asn.0 != other.peer_asn.0 {
-            return false;
-        }
-        if self.peer_bgp_id.0 != other.peer_bgp_id.0 {
-            return false;
-        }
-        self.timestamp == other.timestamp
-    }
-
-    // To compare headers whose times do not matter.
-    pub fn strip_timestamp(self) -> BmpPerPeerHeader
-        ensures { λ r. ⌜ r ≡ stripped self ⌝ }
-    {
-        let mut header = self;
-        header.timestamp = 0.0;
-        header.seconds = 0;
-        header.microseconds = 0;
-        header
-    }
-}
 
 // How many warnings a word has: each is a bit of it.
 pub fn warning_count(warnings: u32) -> u32
@@ -314,7 +224,7 @@ fn is_writable(header: BmpPerPeerHeader) -> bool
     let peer_type = header.peer_type;
     let peer_ip = header.peer_ip;
     let octets = peer_ip.octets;
-    let kind = kind_of(peer_type);
+    let kind = peer_type.number();
     let flags = header.peer_flags;
     let asn = header.peer_asn.0;
     if !shown_address(kind, flags, octets).equals(peer_ip) {
@@ -334,7 +244,7 @@ fn put_header(header: BmpPerPeerHeader, out: &mut [u8])
     let peer_type = header.peer_type;
     let peer_ip = header.peer_ip;
     let octets = peer_ip.octets;
-    writing::put_u8(out, 0, kind_of(peer_type));
+    writing::put_u8(out, 0, peer_type.number());
     writing::put_u8(out, 1, header.peer_flags.0);
     writing::put_u64(out, 2, header.peer_distinguisher.0);
     writing::put_bytes(out, 10, &octets);
@@ -342,16 +252,4 @@ fn put_header(header: BmpPerPeerHeader, out: &mut [u8])
     writing::put_u32(out, 30, header.peer_bgp_id.0);
     writing::put_u32(out, 34, header.seconds);
     writing::put_u32(out, 38, header.microseconds);
-}
-
-// The number that stands for a type on the wire.
-fn kind_of(peer_type: BmpPeerType) -> u8
-    ensures { λ r. ⌜ r ≡ kindOf «peer_type» ⌝ }
-{
-    match peer_type {
-        BmpPeerType::Global => 0,
-        BmpPeerType::RD => 1,
-        BmpPeerType::Local => 2,
-        BmpPeerType::LocalRib => 3,
-    }
 }

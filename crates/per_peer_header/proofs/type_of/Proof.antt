@@ -4,7 +4,7 @@ use lib.ListN.{List·getD-eq-default}
 use Rattle.per_peer_header.specs.Shown.{names, typeOf}
 use Rattle.per_peer_header.proofs.type_of.Statement.{statement}
 use Rattle.per_peer_header.proofs.type_of.Tie as tie
-use Rattle.peer_flags.specs.declared.BmpPeerType.the-variants.{LocalRib}
+use Rattle.peer.specs.declared.BmpPeerType.the-variants.{LocalRib}
 
 returns : tie.Need-returns
 unfolding typeOf

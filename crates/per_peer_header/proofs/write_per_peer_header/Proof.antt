@@ -16,7 +16,7 @@ asked : (c : tie.After-write-answer) → c .write-answer .result ≡ writeAnswer
 asked c = c .write-answer .ensures ∙ ap (λ (b : Bool). writeAnswer b 42 (length (now (c .before .before .before .args .out)))) (c .before .is-writable .ensures)
 
 long : (c : tie.After-write-answer) → writable (c .before .before .before .args .header) ≡ true → length (bytesOf (c .before .before .before .args .header)) ≡ 42
-long c = length-written (c .before .before .before .args .header) (search needs) (omega (arith, c .before .before .before .good))
+long c w = length-written (c .before .before .before .args .header) (omega (arith, c .before .before .before .good)) w (search needs)
 
 is-writable-requires : tie.Need-is-writable-requires
 is-writable-requires c κs = search needs

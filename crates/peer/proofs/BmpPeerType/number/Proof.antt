@@ -1,7 +1,7 @@
 use borrow.Author.Needs.{needs}
-use Rattle.per_peer_header.specs.Shown.{kindOf}
-use Rattle.per_peer_header.proofs.kind_of.Statement.{statement}
-use Rattle.per_peer_header.proofs.kind_of.Tie as tie
+use Rattle.peer.specs.Peer.{kindOf}
+use Rattle.peer.proofs.BmpPeerType.number.Statement.{statement}
+use Rattle.peer.proofs.BmpPeerType.number.Tie as tie
 
 enum-told : tie.Need-enum-told
 enum-told c = search needs
@@ -31,7 +31,7 @@ returns-4 : tie.Need-returns-4
 unfolding kindOf
 returns-4 c = rw (c .enum-told4 .given .1)
 
-pub kind-of-spec : {M : Type 1} → statement M
-kind-of-spec =
+pub number-spec : {M : Type 1} → statement M
+number-spec =
     tie.close
     (tie.spec enum-told enum-told-2 enum-told-3 enum-told-4 returns returns-2 returns-3 returns-4)

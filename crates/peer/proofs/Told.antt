@@ -5,7 +5,7 @@ use mathlib.Core.Path.{_≡_, refl}
 use Rattle.wire.specs.Bytes.{pick}
 use Rattle.models.specs.declared.Afi.the-variants.{Ipv4, Ipv6}
 use Rattle.models.specs.declared.AsnLength.the-variants.{Bits16, Bits32}
-use Rattle.peer_flags.specs.Flags.{flagV, flagA, addressFamily, asnLength}
+use Rattle.peer.specs.Peer.{flagV, flagA, addressFamily, asnLength}
 
 module _ (flags : ℕ) where
   pub ipv6-flag : Ipv6 ≡ addressFamily flags → flagV flags ≡ true

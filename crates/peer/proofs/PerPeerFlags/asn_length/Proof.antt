@@ -1,6 +1,6 @@
 use borrow.Author.Tests.{eq-eqb, ne-eqb}
-use Rattle.peer_flags.proofs.PerPeerFlags.asn_length.Statement.{statement}
-use Rattle.peer_flags.proofs.PerPeerFlags.asn_length.Tie as tie
+use Rattle.peer.proofs.PerPeerFlags.asn_length.Statement.{statement}
+use Rattle.peer.proofs.PerPeerFlags.asn_length.Tie as tie
 
 returns : tie.Need-returns
 returns c = rw (eq-eqb _ _ (c .if1 .taken))

@@ -1,4 +1,4 @@
--- What is asked of a header.
+-- What is asked of a per-peer header.
 use mathlib.Core.Bool.{Bool, _&&_}
 use lib.Dec.{eqb}
 use lib.Ieee.{eq, binary64, ofBits}
@@ -7,12 +7,10 @@ use Rattle.models.specs.Address.{sameAddress}
 use Rattle.models.specs.declared.Afi.{Afi}
 use Rattle.models.specs.declared.AsnLength.{AsnLength}
 use Rattle.models.specs.declared.AsnLength.the-variants.{Bits32}
-use Rattle.peer_flags.specs.Flags.{asnLength}
-use Rattle.per_peer_header.specs.Warnings.{isLocRib}
-use Rattle.per_peer_header.specs.Shown.{kindOf}
-use Rattle.per_peer_header.specs.declared.BmpPerPeerHeader.{BmpPerPeerHeader}
-use Rattle.per_peer_header.specs.declared.PeerTime.{PeerTime}
-use Rattle.per_peer_header.specs.declared.PeerTime.the-variants.{Unavailable, At}
+use Rattle.peer.specs.Peer.{kindOf, isLocRib, asnLength}
+use Rattle.peer.specs.declared.BmpPerPeerHeader.{BmpPerPeerHeader}
+use Rattle.peer.specs.declared.PeerTime.{PeerTime}
+use Rattle.peer.specs.declared.PeerTime.the-variants.{Unavailable, At}
 
 abbrev pub afiOf : BmpPerPeerHeader → Afi
 afiOf h = h .«peer_ip» .afi

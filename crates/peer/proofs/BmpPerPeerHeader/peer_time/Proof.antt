@@ -1,6 +1,6 @@
 use borrow.Author.Tests.{eq-eqb, ne-eqb}
-use Rattle.per_peer_header.proofs.BmpPerPeerHeader.peer_time.Statement.{statement}
-use Rattle.per_peer_header.proofs.BmpPerPeerHeader.peer_time.Tie as tie
+use Rattle.peer.proofs.BmpPerPeerHeader.peer_time.Statement.{statement}
+use Rattle.peer.proofs.BmpPerPeerHeader.peer_time.Tie as tie
 
 returns : tie.Need-returns
 returns c = rw (ne-eqb _ 0 (c .if1 .taken))
