@@ -2,3 +2,4 @@ pub mod Warned
 pub mod Fields
 pub mod Written
 pub mod Laws
+pub mod Promises

@@ -1,28 +1,27 @@
 -- What the writer writes: which headers are writable, and the bytes of one field after the other. Assumes nothing.
-use Prim.Native.Nat.{ℕ, _+_, _-_, _/_, _%_, _^_, _≤_, _<_}
-use mathlib.Core.Bool.{Bool, true, false, and-eq-true-iff}
+use Prim.Native.Nat.{ℕ, zero, suc, _/_, _%_, _^_, _≤_, _<_}
+use mathlib.Core.Bool.{true, and-eq-true-iff}
 use mathlib.Core.Path.{_≡_, refl, sym, ap, _∙_}
-use mathlib.Core.List.{List, [], _++_}
-use native.Mathlib.Nat.{mod-lt}
+use mathlib.Core.List.{List, _++_}
 use native.Mathlib.Omega.{arith}
-use borrow.Author.Tests.{eqb-true}
-use lib.Dec.{eqb, lit<}
-use lib.ListN.{length, take, drop, length-append, length-drop}
+use borrow.Author.Tests.{eqb-true, eq-eqb}
+use lib.Dec.{lit<}
+use lib.ListN.{length, replicate, length-append, length-replicate}
 use lib.Seq.{sets}
-use Rattle.wire.specs.Bytes.{pick, be}
-use Rattle.wire.proofs.Bytes.{length-be, be-split}
+use Rattle.wire.specs.Bytes.{be, Bytes, none, more}
+use Rattle.wire.proofs.Bytes.{be-split}
 use Rattle.writing.specs.Write.{putAt}
 use Rattle.writing.proofs.Sets.{put-then, put-fits, length-put}
-use Rattle.models.specs.Address.{sameAddress}
 use Rattle.models.specs.declared.IpAddr.{IpAddr}
-use Rattle.models.proofs.Promises.{equals-is-equality}
-use Rattle.peer.specs.Peer.{kindOf, isLocRib, flagA}
-use Rattle.per_peer_header.specs.Grammar.{AddressField, ipv4, ipv6, unused, AsField, as16, as32, addressBytes, asBytes, AsFits}
-use Rattle.per_peer_header.specs.Shown.{shownAddress, shownAsn}
-use Rattle.per_peer_header.specs.Read.{addressField, asField}
-use Rattle.per_peer_header.specs.Write.{addressOf, asOf, blankAddress, blankAs, bytesOf, addressFits, asFits, timeFits, writable}
+use Rattle.models.proofs.Promises.{equals-is-equality, is-timestamp-is-equality}
+use Rattle.peer.specs.Peer.{kindOf}
+use Rattle.peer.specs.declared.BmpPeerType.{BmpPeerType}
+use Rattle.peer.specs.declared.BmpPeerType.the-variants.{Global, RD, Local, LocalRib}
+use Rattle.per_peer_header.specs.Grammar.{AddressField, ipv4, ipv6, unused, AsField, as16, as32, addressBytes, asBytes, Octets, AddressFits, AsFits, Layout, ipv4-as16, ipv4-as32, ipv6-as16, ipv6-as32, loc-rib, Good}
+use Rattle.per_peer_header.specs.Shown.{typeOf, shownAddress, shownAsn, shownHeader}
+use Rattle.per_peer_header.specs.Write.{addressOf, asOf, blankAddress, blankAs, readingOf, bytesOf, addressFits, asFits, timeFits, writable, Typed}
 use Rattle.peer.specs.declared.BmpPerPeerHeader.{BmpPerPeerHeader}
-use Rattle.per_peer_header.proofs.Fields.{as-fits}
+use Rattle.per_peer_header.proofs.Fields.{address-fits, as-fits, fields-layout}
 
 -- ---- what `writable` asks
 pub record Writable (h : BmpPerPeerHeader) : Type 0 where
@@ -98,3 +97,87 @@ module _ (h : BmpPerPeerHeader) where
           let q8 = put-then o4 o7 o8 26 38 b7 (be 4 (h .microseconds)) (omega arith) q7 refl e8 in
           let p8 = put-then out o4 o8 0 26 (front ++ octets) back (omega arith) p4 (omega arith) q8 in
           p8 ∙ ap (putAt out 0) (sym written-fields) ∙ put-fits out 0 (bytesOf h) (omega (arith, length-written))
+
+-- ---- a field with its skipped bytes zero has the same layout, fits as well, and is shown the same
+zeros-octets : (n : ℕ) → Octets n (replicate n 0)
+zeros-octets n = record { many = length-replicate n 0; are-bytes = go n }
+  where
+    go : (n : ℕ) → Bytes (replicate n 0)
+    go zero = none
+    go (suc n) = more (lit< tt) (go n)
+
+blank-layout : {kind flags : ℕ} {a : AddressField} {n : AsField} → Layout kind flags a n → Layout kind flags (blankAddress a) (blankAs n)
+blank-layout (ipv4-as16 k v f) = ipv4-as16 k v f
+blank-layout (ipv4-as32 k v f) = ipv4-as32 k v f
+blank-layout (ipv6-as16 k v f) = ipv6-as16 k v f
+blank-layout (ipv6-as32 k v f) = ipv6-as32 k v f
+blank-layout (loc-rib k) = loc-rib k
+
+blank-address : (a : AddressField) → AddressFits a → AddressFits (blankAddress a) × (shownAddress (blankAddress a) ≡ shownAddress a)
+blank-address (ipv4 skipped address) fits = ((zeros-octets 12, fits .1), refl)
+blank-address (ipv6 address) fits = (fits, refl)
+blank-address (unused skipped) fits = (zeros-octets 16, refl)
+
+blank-as : (a : AsField) → AsFits a → AsFits (blankAs a) × (shownAsn (blankAs a) ≡ shownAsn a)
+blank-as (as16 skipped number) fits = ((lit< tt, fits .1), refl)
+blank-as (as32 number) fits = (fits, refl)
+
+-- ---- the reading of a header is good, and shows the header again exactly where it is writable
+named : (t : BmpPeerType) → (typeOf (kindOf t) ≡ t) × (kindOf t ≤ 3)
+unfolding typeOf kindOf
+named Global = (refl, omega arith)
+named RD = (refl, omega arith)
+named Local = (refl, omega arith)
+named LocalRib = (refl, omega arith)
+
+module _ (h : BmpPerPeerHeader) (t : Typed h) where
+  address-kept : AddressFits (blankAddress (addressOf h)) × (shownAddress (blankAddress (addressOf h)) ≡ shownAddress (addressOf h))
+  address-kept = blank-address (addressOf h) (address-fits (kindOf (h .«peer_type»)) (h .«peer_flags» .0) (t .octets))
+
+  as-kept : AsFits (blankAs (asOf h)) × (shownAsn (blankAs (asOf h)) ≡ shownAsn (asOf h))
+  as-kept = blank-as (asOf h) (as-fits (kindOf (h .«peer_type»)) (h .«peer_flags» .0) (h .«peer_asn» .0) (t .asn-fits))
+
+  pub good-reading : Good (readingOf h)
+  good-reading =
+      record {
+        flags-fit = t .flags-fit;
+        distinguisher-fits = t .distinguisher-fits;
+        layout =
+            blank-layout
+            (fields-layout (kindOf (h .«peer_type»)) (h .«peer_flags» .0) (h .«peer_ip» .octets) (h .«peer_asn» .0) (named (h .«peer_type») .1));
+        address-fits = address-kept .0;
+        asn-fits = as-kept .0;
+        id-fits = t .id-fits;
+        seconds-fit = t .seconds-fit;
+        microseconds-fit = t .microseconds-fit;
+        tail-bytes = none;
+      }
+
+  pub shown-again : writable h ≡ true → shownHeader (readingOf h) ≡ h
+  shown-again w =
+      let is = writable-is h w in
+      let peer-ip = address-kept .1 ∙ is .address-is in
+      let peer-asn = as-kept .1 ∙ is .asn-is in
+      let time = sym (is-timestamp-is-equality (h .timestamp) (h .seconds) (h .microseconds) (t .time-fits) .0 (is .time-is)) in
+      λ i. record {
+        «peer_type» = named (h .«peer_type») .0 i;
+        «peer_flags» = h .«peer_flags»;
+        «peer_distinguisher» = h .«peer_distinguisher»;
+        «peer_ip» = peer-ip i;
+        «peer_asn» = record { 0 = peer-asn i };
+        «peer_bgp_id» = h .«peer_bgp_id»;
+        timestamp = time i;
+        seconds = h .seconds;
+        microseconds = h .microseconds;
+      }
+
+  pub again-writable : shownHeader (readingOf h) ≡ h → writable h ≡ true
+  again-writable e =
+      let peer-ip = sym (address-kept .1) ∙ ap (λ (x : BmpPerPeerHeader). x .«peer_ip») e in
+      let peer-asn = sym (as-kept .1) ∙ ap (λ (x : BmpPerPeerHeader). x .«peer_asn» .0) e in
+      let time = sym (ap (λ (x : BmpPerPeerHeader). x .timestamp) e) in
+      rw (
+        equals-is-equality (shownAddress (addressOf h)) (h .«peer_ip») .1 peer-ip,
+        eq-eqb (shownAsn (asOf h)) (h .«peer_asn» .0) peer-asn,
+      )
+      (is-timestamp-is-equality (h .timestamp) (h .seconds) (h .microseconds) (t .time-fits) .1 time)

@@ -1,13 +1,14 @@
 -- What the writer writes: the reading of a header, by the grammar's own parts; and which headers are writable.
-use Prim.Native.Nat.{ℕ}
+use Prim.Native.Nat.{ℕ, _^_, _<_}
 use mathlib.Core.Bool.{Bool, _&&_}
 use mathlib.Core.List.{List, []}
-use lib.Dec.{eqb}
+use lib.Dec.{T, eqb}
+use lib.Ieee.{binary64, fits}
 use lib.ListN.{replicate}
 use Rattle.models.specs.Address.{sameAddress}
 use Rattle.models.specs.Time.{isTimestamp}
 use Rattle.peer.specs.Peer.{kindOf}
-use Rattle.per_peer_header.specs.Grammar.{AddressField, ipv4, ipv6, unused, AsField, as16, as32, Reading, join}
+use Rattle.per_peer_header.specs.Grammar.{AddressField, ipv4, ipv6, unused, AsField, as16, as32, Reading, Octets, join}
 use Rattle.per_peer_header.specs.Shown.{shownAddress, shownAsn}
 use Rattle.per_peer_header.specs.Read.{addressField, asField}
 use Rattle.peer.specs.declared.BmpPerPeerHeader.{BmpPerPeerHeader}
@@ -60,3 +61,14 @@ timeFits h = isTimestamp (h .timestamp) (h .seconds) (h .microseconds)
 
 abbrev pub writable : BmpPerPeerHeader → Bool
 writable h = addressFits h && (asFits h && timeFits h)
+
+-- what the types of its fields say of every header
+pub record Typed (h : BmpPerPeerHeader) : Type 0 where
+  pub flags-fit : h .«peer_flags» .0 < 256 ^ 1
+  pub distinguisher-fits : h .«peer_distinguisher» .0 < 256 ^ 8
+  pub octets : Octets 16 (h .«peer_ip» .octets)
+  pub asn-fits : h .«peer_asn» .0 < 256 ^ 4
+  pub id-fits : h .«peer_bgp_id» .0 < 256 ^ 4
+  pub time-fits : T (fits binary64 (h .timestamp))
+  pub seconds-fit : h .seconds < 256 ^ 4
+  pub microseconds-fit : h .microseconds < 256 ^ 4
