@@ -1,2 +1,3 @@
 pub mod Told
 pub mod Equality
+pub mod Promises

@@ -1,11 +1,21 @@
--- The flag that a family or an AS length comes from. Assumes nothing.
-use Prim.Native.Nat.{ℕ}
+-- The number that stands for a type, and the flag that a family or an AS length comes from. Assumes nothing.
+use Prim.Native.Nat.{ℕ, _≤_}
+use native.Mathlib.Omega.{arith}
 use mathlib.Core.Bool.{Bool, true, false}
 use mathlib.Core.Path.{_≡_, refl}
 use Rattle.wire.specs.Bytes.{pick}
 use Rattle.models.specs.declared.Afi.the-variants.{Ipv4, Ipv6}
 use Rattle.models.specs.declared.AsnLength.the-variants.{Bits16, Bits32}
-use Rattle.peer.specs.Peer.{flagV, flagA, addressFamily, asnLength}
+use Rattle.peer.specs.Peer.{kindOf, typeOf, flagV, flagA, addressFamily, asnLength}
+use Rattle.peer.specs.declared.BmpPeerType.{BmpPeerType}
+use Rattle.peer.specs.declared.BmpPeerType.the-variants.{Global, RD, Local, LocalRib}
+
+pub named : (t : BmpPeerType) → (typeOf (kindOf t) ≡ t) × (kindOf t ≤ 3)
+unfolding typeOf kindOf
+named Global = (refl, omega arith)
+named RD = (refl, omega arith)
+named Local = (refl, omega arith)
+named LocalRib = (refl, omega arith)
 
 module _ (flags : ℕ) where
   pub ipv6-flag : Ipv6 ≡ addressFamily flags → flagV flags ≡ true

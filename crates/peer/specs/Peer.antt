@@ -1,7 +1,9 @@
 -- The type of a peer and its flags: the first two bytes of a per-peer header.
 use Prim.Native.Nat.{ℕ, _/_, _%_}
 use mathlib.Core.Bool.{Bool}
+use mathlib.Core.List.{List, [], _∷_}
 use lib.Dec.{eqb}
+use lib.ListN.{getD}
 use Rattle.wire.specs.Bytes.{pick}
 use Rattle.models.specs.declared.Afi.{Afi}
 use Rattle.models.specs.declared.Afi.the-variants.{Ipv4, Ipv6}
@@ -16,6 +18,13 @@ kindOf Global = 0
 kindOf RD = 1
 kindOf Local = 2
 kindOf LocalRib = 3
+
+-- the names of 0 to 2; 3 is the last, and what is above it is refused before it is named
+abbrev pub names : List BmpPeerType
+names = Global ∷ RD ∷ Local ∷ []
+
+unfoldable pub typeOf : ℕ → BmpPeerType
+typeOf n = getD names n LocalRib
 
 abbrev pub isLocRib : ℕ → Bool
 isLocRib kind = eqb kind 3

@@ -30,7 +30,7 @@ use Rattle.peer.specs.declared.BmpPeerType.the-variants.{Global, RD, Local, Loc
 use Rattle.peer.specs.declared.BmpPerPeerHeader.{BmpPerPeerHeader}
 use Rattle.per_peer_header.specs.Grammar.{widths, AddressField, ipv4, ipv6, unused, AsField, as16, as32, Reading, addressBytes, join, Octets, AddressFits, AsFits, Layout, ipv4-as16, ipv4-as32, ipv6-as16, ipv6-as32, loc-rib, Good}
 use Rattle.per_peer_header.specs.Warnings.{strayAddress, noRouterId, warnings, countOnes}
-use Rattle.per_peer_header.specs.Shown.{typeOf, shownAddress, shownAsn, shownHeader, shown, refused}
+use Rattle.per_peer_header.specs.Shown.{shown, refused}
 use Rattle.per_peer_header.specs.Read.{partsOf, readPerPeerHeader}
 use Rattle.per_peer_header.specs.Write.{readingOf, bytesOf, writable, Typed}
 use Rattle.per_peer_header.specs.declared.PerPeerHeaderAnswer.{PerPeerHeaderAnswer}

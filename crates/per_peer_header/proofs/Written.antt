@@ -15,10 +15,9 @@ use Rattle.writing.proofs.Sets.{put-then, put-fits, length-put}
 use Rattle.models.specs.declared.IpAddr.{IpAddr}
 use Rattle.models.proofs.Promises.{equals-is-equality, is-timestamp-is-equality}
 use Rattle.peer.specs.Peer.{kindOf}
-use Rattle.peer.specs.declared.BmpPeerType.{BmpPeerType}
-use Rattle.peer.specs.declared.BmpPeerType.the-variants.{Global, RD, Local, LocalRib}
+use Rattle.peer.proofs.Told.{named}
 use Rattle.per_peer_header.specs.Grammar.{AddressField, ipv4, ipv6, unused, AsField, as16, as32, addressBytes, asBytes, Octets, AddressFits, AsFits, Layout, ipv4-as16, ipv4-as32, ipv6-as16, ipv6-as32, loc-rib, Good}
-use Rattle.per_peer_header.specs.Shown.{typeOf, shownAddress, shownAsn, shownHeader}
+use Rattle.per_peer_header.specs.Shown.{shownAddress, shownAsn, shownHeader}
 use Rattle.per_peer_header.specs.Write.{addressOf, asOf, blankAddress, blankAs, readingOf, bytesOf, addressFits, asFits, timeFits, writable, Typed}
 use Rattle.peer.specs.declared.BmpPerPeerHeader.{BmpPerPeerHeader}
 use Rattle.per_peer_header.proofs.Fields.{address-fits, as-fits, fields-layout}
@@ -123,13 +122,6 @@ blank-as (as16 skipped number) fits = ((lit< tt, fits .1), refl)
 blank-as (as32 number) fits = (fits, refl)
 
 -- ---- the reading of a header is good, and shows the header again exactly where it is writable
-named : (t : BmpPeerType) → (typeOf (kindOf t) ≡ t) × (kindOf t ≤ 3)
-unfolding typeOf kindOf
-named Global = (refl, omega arith)
-named RD = (refl, omega arith)
-named Local = (refl, omega arith)
-named LocalRib = (refl, omega arith)
-
 module _ (h : BmpPerPeerHeader) (t : Typed h) where
   address-kept : AddressFits (blankAddress (addressOf h)) × (shownAddress (blankAddress (addressOf h)) ≡ shownAddress (addressOf h))
   address-kept = blank-address (addressOf h) (address-fits (kindOf (h .«peer_type»)) (h .«peer_flags» .0) (t .octets))

@@ -1,7 +1,7 @@
 -- How a reading is shown in the answer, and what a refusal shows.
 use Prim.Native.Nat.{ℕ}
-use mathlib.Core.List.{List, [], _∷_, _++_}
-use lib.ListN.{getD, replicate}
+use mathlib.Core.List.{_++_}
+use lib.ListN.{replicate}
 use lib.Ieee.{binary64, ofBits}
 use Rattle.wire.specs.Read.{noRefusal}
 use Rattle.wire.specs.declared.Refusal.{Refusal}
@@ -11,17 +11,10 @@ use Rattle.models.specs.declared.Afi.the-variants.{Ipv4, Ipv6}
 use Rattle.models.specs.declared.IpAddr.{IpAddr}
 use Rattle.per_peer_header.specs.Grammar.{AddressField, ipv4, ipv6, unused, AsField, as16, as32, Reading}
 use Rattle.per_peer_header.specs.Warnings.{warnings}
-use Rattle.peer.specs.declared.BmpPeerType.{BmpPeerType}
-use Rattle.peer.specs.declared.BmpPeerType.the-variants.{Global, RD, Local, LocalRib}
+use Rattle.peer.specs.Peer.{typeOf}
+use Rattle.peer.specs.declared.BmpPeerType.the-variants.{Global}
 use Rattle.peer.specs.declared.BmpPerPeerHeader.{BmpPerPeerHeader}
 use Rattle.per_peer_header.specs.declared.PerPeerHeaderAnswer.{PerPeerHeaderAnswer}
-
--- the types 0 to 2 by their numbers; 3 is the last, and what is above it is refused before it is named
-abbrev pub names : List BmpPeerType
-names = Global ∷ RD ∷ Local ∷ []
-
-unfoldable pub typeOf : ℕ → BmpPeerType
-typeOf n = getD names n LocalRib
 
 -- an IPv4 address with zeros before its four octets; of a Loc-RIB IPv4 zero, whatever stands in the field
 abbrev pub shownAddress : AddressField → IpAddr

@@ -19,9 +19,10 @@ ghost use lib.Seq.{sets};
 ghost use Rattle.wire.specs.Bytes.{pick};
 ghost use Rattle.layout.specs.Layout.{cutIn};
 ghost use Rattle.writing.specs.Write.{writeAnswer, written};
+ghost use Rattle.peer.specs.Peer.{typeOf};
 ghost use Rattle.per_peer_header.specs.Grammar.{widths};
 ghost use Rattle.per_peer_header.specs.Warnings.{zeroFilled, warningsOf, countOnes};
-ghost use Rattle.per_peer_header.specs.Shown.{typeOf, shownAddress, shownAsn, shown, refused};
+ghost use Rattle.per_peer_header.specs.Shown.{shownAddress, shownAsn, shown, refused};
 ghost use Rattle.per_peer_header.specs.Read.{addressField, asField, partsOf, readPerPeerHeader};
 ghost use Rattle.per_peer_header.specs.Write.{writable, bytesOf};
 

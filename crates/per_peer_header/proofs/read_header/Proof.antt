@@ -6,7 +6,8 @@ use mathlib.Core.List.{List}
 use lib.ListN.{length, take, drop}
 use lib.Dec.{lit≤}
 use Rattle.per_peer_header.specs.Read.{addressField, asField}
-use Rattle.per_peer_header.specs.Shown.{typeOf, shownAddress, shownAsn}
+use Rattle.per_peer_header.specs.Shown.{shownAddress, shownAsn}
+use Rattle.peer.specs.Peer.{typeOf}
 use Rattle.per_peer_header.specs.Warnings.{warningsOf, warnings}
 use Rattle.per_peer_header.proofs.Fields.{there, address-there, address-bytes}
 use Rattle.wire.specs.Bytes.{numAt}

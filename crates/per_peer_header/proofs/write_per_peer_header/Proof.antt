@@ -5,18 +5,34 @@ use mathlib.Core.Path.{_≡_, ap, _∙_, subst}
 use Prim.Native.Nat.{ℕ, _≤_}
 use mathlib.Core.Bool.{Bool, true}
 use lib.ListN.{length}
-use Rattle.per_peer_header.specs.Write.{bytesOf, writable}
+use Rattle.per_peer_header.specs.Write.{bytesOf, writable, Typed}
 use Rattle.per_peer_header.proofs.Written.{length-written}
 use Rattle.writing.specs.Write.{writeAnswer}
 use Rattle.writing.proofs.Answers.{answered, left-alone, wrote, put-there}
 use Rattle.per_peer_header.proofs.write_per_peer_header.Statement.{statement}
 use Rattle.per_peer_header.proofs.write_per_peer_header.Tie as tie
+use Rattle.layout.proofs.Octets.{array-bytes}
+
+-- The promises speak of every header that is handed to the writer.
+typed : (c : tie.Start) → Typed (c .args .header)
+typed c =
+    let address = c .good .0 .1 .1 .1 .1 .1 .0 .1 .1 .0 in
+    record {
+      flags-fit = omega (arith, c .good);
+      distinguisher-fits = omega (arith, c .good);
+      octets = record { many = search needs; are-bytes = array-bytes (c .args .header .«peer_ip» .octets) (address .0) (address .1 .1) };
+      asn-fits = omega (arith, c .good);
+      id-fits = omega (arith, c .good);
+      time-fits = search needs;
+      seconds-fit = omega (arith, c .good);
+      microseconds-fit = omega (arith, c .good);
+    }
 
 asked : (c : tie.After-write-answer) → c .write-answer .result ≡ writeAnswer (writable (c .before .before .before .args .header)) 42 (length (now (c .before .before .before .args .out)))
 asked c = c .write-answer .ensures ∙ ap (λ (b : Bool). writeAnswer b 42 (length (now (c .before .before .before .args .out)))) (c .before .is-writable .ensures)
 
 long : (c : tie.After-write-answer) → writable (c .before .before .before .args .header) ≡ true → length (bytesOf (c .before .before .before .args .header)) ≡ 42
-long c w = length-written (c .before .before .before .args .header) (omega (arith, c .before .before .before .good)) w (search needs)
+long c w = let t = typed (c .before .before .before) in length-written (c .before .before .before .args .header) (t .asn-fits) w (t .octets .many)
 
 is-writable-requires : tie.Need-is-writable-requires
 is-writable-requires c κs = search needs
