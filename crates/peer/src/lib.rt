@@ -16,6 +16,9 @@ pub enum BmpPeerType {
     LocalRib,
 }
 
+// The last of the types that are known, and the one whose header is another.
+pub const LOCAL_RIB: u8 = 3;
+
 impl BmpPeerType {
     // The number that stands for the type on the wire.
     pub fn number(self) -> u8
@@ -25,12 +28,13 @@ impl BmpPeerType {
             BmpPeerType::Global => 0,
             BmpPeerType::RD => 1,
             BmpPeerType::Local => 2,
-            BmpPeerType::LocalRib => 3,
+            BmpPeerType::LocalRib => LOCAL_RIB,
         }
     }
 }
 
-// The flags as they stand there. What a bit means depends on the peer type: types 0 to 2 have the first four, a Loc-RIB the last.
+// The flags as they stand in the header, with the bits that have no meaning. A peer of types 0 to 2 has the first four, a Loc-RIB
+// the last: what a bit means depends on the type.
 pub struct PerPeerFlags(pub u8);
 
 const ADDRESS_FAMILY_IPV6: u8 = 0b1000_0000;
@@ -47,7 +51,7 @@ impl PerPeerFlags {
     pub fn address_family(self) -> Afi
         ensures { λ r. ⌜ r ≡ addressFamily (self .0) ⌝ }
     {
-        if self.0 / ADDRESS_FAMILY_IPV6 % 2 == 1 {
+        if self.0 & ADDRESS_FAMILY_IPV6 != 0 {
             return Afi::Ipv6;
         }
         Afi::Ipv4
@@ -56,13 +60,13 @@ impl PerPeerFlags {
     pub fn is_post_policy(self) -> bool
         ensures { λ r. ⌜ r ≡ flagL (self .0) ⌝ }
     {
-        self.0 / IS_POST_POLICY % 2 == 1
+        self.0 & IS_POST_POLICY != 0
     }
 
     pub fn asn_length(self) -> AsnLength
         ensures { λ r. ⌜ r ≡ asnLength (self .0) ⌝ }
     {
-        if self.0 / AS_SIZE_16BIT % 2 == 1 {
+        if self.0 & AS_SIZE_16BIT != 0 {
             return AsnLength::Bits16;
         }
         AsnLength::Bits32
@@ -71,17 +75,17 @@ impl PerPeerFlags {
     pub fn is_adj_rib_out(self) -> bool
         ensures { λ r. ⌜ r ≡ flagO (self .0) ⌝ }
     {
-        self.0 / IS_ADJ_RIB_OUT % 2 == 1
+        self.0 & IS_ADJ_RIB_OUT != 0
     }
 
     pub fn is_filtered(self) -> bool
         ensures { λ r. ⌜ r ≡ flagF (self .0) ⌝ }
     {
-        self.0 / IS_FILTERED % 2 == 1
+        self.0 & IS_FILTERED != 0
     }
 }
 
-// The time as the Rust has it, and beside it the two words that it comes from.
+// What tells apart two peers with one address is the type and the distinguisher. Beside the time stand the words that it comes from.
 pub struct BmpPerPeerHeader {
     pub peer_type: BmpPeerType,
     pub peer_flags: PerPeerFlags,
@@ -111,13 +115,14 @@ impl BmpPerPeerHeader {
         ensures { λ r. ⌜ r ≡ asnLengthOf self ⌝ }
     {
         let peer_type = self.peer_type;
-        if peer_type.number() == 3 {
+        if peer_type.number() == LOCAL_RIB {
             return AsnLength::Bits32;
         }
         let peer_flags = self.peer_flags;
         peer_flags.asn_length()
     }
 
+    // The words decide and not the f64, which -0.0 would fool.
     pub fn peer_time(self) -> PeerTime
         ensures { λ r. ⌜ r ≡ peerTime self ⌝ }
     {
@@ -130,7 +135,7 @@ impl BmpPerPeerHeader {
         PeerTime::Unavailable
     }
 
-    // As in the Rust two headers with one time are equal whatever words it comes from.
+    // Two headers with one time are equal whatever words it comes from, since the Rust has no words to compare.
     pub fn equals(self, other: BmpPerPeerHeader) -> bool
         ensures { λ r. ⌜ r ≡ sameHeader self other ⌝ }
     {

@@ -3,3 +3,4 @@ pub mod Fields
 pub mod Written
 pub mod Laws
 pub mod Promises
+pub mod Specimens

@@ -1,23 +1,22 @@
--- The per-peer header of a BMP message (RFC 7854, section 4.2), and then whatever follows it:
+-- The per-peer header of a BMP message (RFC 7854, section 4.2; type 3: RFC 9069, sections 4 and 5), and then whatever follows it:
 --
---     offset  width   part
---          0   1      type             0 Global Instance, 1 RD Instance, 2 Local Instance; 3 Loc-RIB Instance (RFC 9069)
---          1   1      flags            types 0 to 2: V 0x80, L 0x40, A 0x20, O 0x10 (RFC 8671); type 3: F 0x80 (RFC 9069)
---          2   8      distinguisher
---         10  16      address          one of
---                     12 skipped, 4    IPv4     types 0 to 2 with V clear
---                     16               IPv6     types 0 to 2 with V set
---                     16 skipped       none     type 3, whatever its flags hold
---         26   4      AS               one of
---                     2 skipped, 2     16 bits  types 0 to 2 with A set
---                     4                32 bits  types 0 to 2 with A clear; type 3, whatever its flags hold
---         30   4      BGP ID
---         34   4      seconds
---         38   4      microseconds     any number, a million and more too
---         42          tail             what follows the header
+--     offset  width  part
+--        0      1    type            0 Global Instance Peer, 1 RD Instance Peer, 2 Local Instance Peer, 3 Loc-RIB Instance Peer
+--        1      1    flags           types 0 to 2: V 0x80 IPv6, L 0x40 post-policy, A 0x20 2-byte AS, O 0x10 Adj-RIB-Out (RFC 8671);
+--                                    type 3: F 0x80 filtered; any byte is good
+--        2      8    distinguisher
+--       10     16    address         V clear: 12 bytes skipped, and then the 4 of an IPv4 address
+--                                    V set: the 16 bytes of an IPv6 address
+--                                    type 3, whatever its flags hold: 16 bytes skipped
+--       26      4    AS              A set: 2 bytes skipped, and then a number of 2
+--                                    A clear, and type 3 whatever its flags hold: a number of 4
+--       30      4    BGP ID
+--       34      4    seconds
+--       38      4    microseconds    any number is good, a million and more too
+--       42           tail            what follows the header
 --
--- Skipped bytes may be anything.
-use Prim.Native.Nat.{ℕ, _^_, _≤_, _<_}
+-- Below, `be w n` are the w bytes of the number n, the most significant first, and skipped bytes may be anything.
+use Prim.Native.Nat.{ℕ, _^_, _<_}
 use mathlib.Core.Bool.{true, false}
 use mathlib.Core.Path.{_≡_}
 use mathlib.Core.List.{List, [], _∷_, _++_}
@@ -64,7 +63,7 @@ join r =
     be 1 (r .kind) ++ (be 1 (r .flags) ++ (be 8 (r .distinguisher) ++ (addressBytes (r .address) ++ (asBytes (r .asn) ++
     (be 4 (r .id) ++ (be 4 (r .seconds) ++ (be 4 (r .microseconds) ++ r .tail)))))))
 
--- ---- what makes a reading good
+-- ---- what makes a reading good: its parts fit their fields, and address and AS are laid out as type and flags say
 pub record Octets (n : ℕ) (l : List ℕ) : Type 0 where
   pub many : length l ≡ n
   pub are-bytes : Bytes l
@@ -78,7 +77,7 @@ abbrev pub AsFits : AsField → Type 0
 AsFits (as16 skipped number) = (skipped < 256 ^ 2) × (number < 256 ^ 2)
 AsFits (as32 number) = number < 256 ^ 4
 
--- the five layouts of address and AS, by type and flags
+-- The five layouts of address and AS; a type above 3 has none.
 pub data Layout (kind flags : ℕ) : AddressField → AsField → Type 0 where
   ipv4-as16 : {s a : List ℕ} {m n : ℕ} → kind < 3 → flagV flags ≡ false → flagA flags ≡ true → Layout kind flags (ipv4 s a) (as16 m n)
   ipv4-as32 : {s a : List ℕ} {n : ℕ} → kind < 3 → flagV flags ≡ false → flagA flags ≡ false → Layout kind flags (ipv4 s a) (as32 n)

@@ -1,4 +1,4 @@
-// The per-peer header of a BMP message, which says whose numbers the message carries (RFC 7854, section 4.2).
+// The 42 bytes of a per-peer header (RFC 7854, section 4.2), read and written.
 use models::Afi;
 use models::Asn;
 use models::AsnLength;
@@ -26,13 +26,6 @@ ghost use Rattle.per_peer_header.specs.Shown.{shownAddress, shownAsn, sh
 ghost use Rattle.per_peer_header.specs.Read.{addressField, asField, partsOf, readPerPeerHeader};
 ghost use Rattle.per_peer_header.specs.Write.{writable, bytesOf};
 
-// How many warnings a word has: each is a bit of it.
-pub fn warning_count(warnings: u32) -> u32
-    ensures { λ r. ⌜ r ≡ countOnes 32 warnings ⌝ }
-{
-    u32::count_ones(warnings)
-}
-
 // The header, the place after it and the warnings; where it is refused, the refusal and zeros.
 pub struct PerPeerHeaderAnswer {
     pub refusal: Refusal,
@@ -41,11 +34,20 @@ pub struct PerPeerHeaderAnswer {
     pub header: BmpPerPeerHeader,
 }
 
-// The bits of the warnings (docs/RULES.md, "Warnings").
+// Warnings are bits of one word (docs/RULES.md, "Warnings"): the address of a Loc-RIB is not zero, and its router-id is.
 const STRAY_ADDRESS: u32 = 1;
 
 const NO_ROUTER_ID: u32 = 2;
 
+// How many warnings a word holds.
+pub fn warning_count(warnings: u32) -> u32
+    ensures { λ r. ⌜ r ≡ countOnes 32 warnings ⌝ }
+{
+    u32::count_ones(warnings)
+}
+
+// The type is judged before the length, so that an unknown one is named even where more is missing; where there is no byte at
+// all, u8_at gives 0 and the length refuses.
 pub fn parse_per_peer_header(s: &[u8]) -> PerPeerHeaderAnswer
     ensures { λ r. ⌜ r ≡ readPerPeerHeader (now (s .entry)) ⌝ }
 {
@@ -55,7 +57,7 @@ pub fn parse_per_peer_header(s: &[u8]) -> PerPeerHeaderAnswer
             place: 0,
         });
     }
-    if 3 < wire::u8_at(s, 0) {
+    if peer::LOCAL_RIB < wire::u8_at(s, 0) {
         return refused_with(Refusal {
             number: wire::UNKNOWN_KIND,
             place: 0,
@@ -67,6 +69,7 @@ pub fn parse_per_peer_header(s: &[u8]) -> PerPeerHeaderAnswer
     read_header(s)
 }
 
+// An address of 16 bytes is one field, and so is an AS of 4.
 fn cut(length: usize) -> Refusal
     ensures { λ r. ⌜ r ≡ cutIn widths 0 length ⌝ }
 {
@@ -74,6 +77,7 @@ fn cut(length: usize) -> Refusal
     layout::cut_in(&widths, 0, length)
 }
 
+// A refusal shows no header: all of it is zero, and its time unavailable.
 fn refused_with(refusal: Refusal) -> PerPeerHeaderAnswer
     ensures { λ r. ⌜ r ≡ refused refusal ⌝ }
 {
@@ -140,11 +144,11 @@ fn type_of(kind: u8) -> BmpPeerType
     }
 }
 
-// The address that the field's sixteen bytes show; nothing else makes one.
+// The one place where the sixteen bytes of the field become the address that is shown.
 fn shown_address(kind: u8, flags: PerPeerFlags, octets: [u8; 16]) -> IpAddr
     ensures { λ r. ⌜ r ≡ shownAddress (addressField kind (flags .0) octets) ⌝ }
 {
-    if kind == 3 {
+    if kind == peer::LOCAL_RIB {
         return IpAddr::unspecified();
     }
     match flags.address_family() {
@@ -159,11 +163,11 @@ fn shown_address(kind: u8, flags: PerPeerFlags, octets: [u8; 16]) -> IpAddr
     }
 }
 
-// The AS that the number of the field's four bytes shows; nothing else makes one.
+// The one place where the number of the field's four bytes becomes the AS that is shown.
 fn shown_asn(kind: u8, flags: PerPeerFlags, number: u32) -> u32
     ensures { λ r. ⌜ r ≡ shownAsn (asField kind (flags .0) number) ⌝ }
 {
-    if kind == 3 {
+    if kind == peer::LOCAL_RIB {
         return number;
     }
     match flags.asn_length() {
@@ -175,7 +179,7 @@ fn shown_asn(kind: u8, flags: PerPeerFlags, number: u32) -> u32
 fn warnings_of(kind: u8, address: [u8; 16], id: u32, distinguisher: u64) -> u32
     ensures { λ r. ⌜ r ≡ warningsOf kind address id distinguisher ⌝ }
 {
-    if kind != 3 {
+    if kind != peer::LOCAL_RIB {
         return 0;
     }
     word_of(is_zero_filled(address), lacks_router_id(id, distinguisher))
@@ -197,13 +201,17 @@ fn lacks_router_id(id: u32, distinguisher: u64) -> bool
     id == 0 && distinguisher != 0
 }
 
-fn word_of(zero_filled: bool, lacks_router_id: bool) -> u32
-    ensures { λ r. ⌜ r ≡ pick (not «zero_filled») 1 0 + pick «lacks_router_id» 2 0 ⌝ }
+fn word_of(zero_filled: bool, no_router_id: bool) -> u32
+    ensures { λ r. ⌜ r ≡ pick (not «zero_filled») 1 0 + pick «no_router_id» 2 0 ⌝ }
 {
     if zero_filled {
-        if lacks_router_id { NO_ROUTER_ID } else { 0 }
+        if no_router_id { NO_ROUTER_ID } else { 0 }
     } else {
-        if lacks_router_id { STRAY_ADDRESS + NO_ROUTER_ID } else { STRAY_ADDRESS }
+        if no_router_id {
+            STRAY_ADDRESS + NO_ROUTER_ID
+        } else {
+            STRAY_ADDRESS
+        }
     }
 }
 
@@ -237,6 +245,7 @@ fn is_writable(header: BmpPerPeerHeader) -> bool
     models::is_timestamp(header.timestamp, header.seconds, header.microseconds)
 }
 
+// In a writable header the octets that are skipped on reading are zero, so all sixteen are put as they are.
 fn put_header(header: BmpPerPeerHeader, out: &mut [u8])
     requires { ⌜ writable header ≡ true ⌝ }
     requires { ⌜ 42 ≤ length (now out) ⌝ }

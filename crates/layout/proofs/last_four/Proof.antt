@@ -10,8 +10,13 @@ use Rattle.layout.proofs.last_four.Tie as tie
 
 four : (l : List ℕ) → length l ≡ 16 → drop 12 l ≡ getD l 12 0 ∷ getD l 13 0 ∷ getD l 14 0 ∷ getD l 15 0 ∷ []
 four l h =
-    rw (drop-cons l 12 0 (omega arith), drop-cons l 13 0 (omega arith), drop-cons l 14 0 (omega arith), drop-cons l 15 0 (omega arith),
-    drop-of-length-le l {i = 16} (omega arith))
+    rw (
+      drop-cons l 12 0 (omega arith),
+      drop-cons l 13 0 (omega arith),
+      drop-cons l 14 0 (omega arith),
+      drop-cons l 15 0 (omega arith),
+      drop-of-length-le l {i = 16} (omega arith),
+    )
 
 array-read-kept : tie.Need-array-read-kept
 array-read-kept c = search needs

@@ -68,9 +68,9 @@ returns c =
     let seconds = c .before .before .before .before .before .before .before .u32-at2 .ensures ∙ there s long 4 34 (lit≤ tt) in
     let microseconds = c .before .before .before .before .before .before .u32-at3 .ensures ∙ there s long 4 38 (lit≤ tt) in
     let warned =
-        c .warnings-of .ensures
-        ∙ (λ i. warningsOf (kind i) (octets i) (id i) (distinguisher i))
-        ∙ ap (λ (l : List ℕ). warningsOf (numAt 1 s 0) l (numAt 4 s 30) (numAt 8 s 2)) (sym (address-bytes (numAt 1 s 0) (numAt 1 s 1) (take 16 (drop 10 s)))) in
+    c .warnings-of .ensures
+    ∙ (λ i. warningsOf (kind i) (octets i) (id i) (distinguisher i))
+    ∙ ap (λ (l : List ℕ). warningsOf (numAt 1 s 0) l (numAt 4 s 30) (numAt 8 s 2)) (sym (address-bytes (numAt 1 s 0) (numAt 1 s 1) (take 16 (drop 10 s)))) in
     let peer-type = c .before .before .before .before .before .type-of .ensures ∙ ap typeOf kind in
     let peer-ip = c .before .before .before .before .shown-address .ensures ∙ (λ i. shownAddress (addressField (kind i) (flags i) (octets i))) in
     let peer-asn = c .before .before .shown-asn .ensures ∙ (λ i. shownAsn (asField (kind i) (flags i) (asn i))) in
