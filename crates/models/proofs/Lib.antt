@@ -1,3 +1,4 @@
 pub mod Equality
+pub mod Times
 pub mod Promises
 pub mod Specimens

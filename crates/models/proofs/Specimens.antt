@@ -1,9 +1,10 @@
 -- `timeOf` at words whose bits come from outside, from Python's `struct.pack('>d', seconds + microseconds / 1000000.0)`. Assumes nothing.
 use Prim.Native.Nat.{ℕ}
+use mathlib.Core.Bool.{true, false}
 use mathlib.Core.List.{List, [], _∷_, map}
 use mathlib.Core.Path.{_≡_, refl}
-use lib.Ieee.{Float, binary64, ofInt, ofBits, add, div}
-use Rattle.models.specs.Time.{timeOf}
+use lib.Ieee.{Float, binary64, ofInt, ofBits, toBits, add, div}
+use Rattle.models.specs.Time.{timeOf, isTimestamp}
 
 -- Seconds, microseconds, and the bits that they give.
 abbrev specimens : List (ℕ × ℕ × ℕ)
@@ -29,3 +30,12 @@ expected (seconds, microseconds, bits) = ofBits binary64 bits
 pub times-have-their-bits : map timed specimens ≡ map expected specimens
 unfolding ofInt ofBits add div
 times-have-their-bits = refl
+
+-- 0.0 is the time of two zeros, and -0.0, which equals it, is not.
+pub zero-is-the-time : isTimestamp (ofBits binary64 0x0000_0000_0000_0000) 0 0 ≡ true
+unfolding ofInt ofBits toBits add div
+zero-is-the-time = refl
+
+pub negative-zero-is-not : isTimestamp (ofBits binary64 0x8000_0000_0000_0000) 0 0 ≡ false
+unfolding ofInt ofBits toBits add div
+negative-zero-is-not = refl

@@ -1,0 +1,62 @@
+-- What a user of the crate relies on. Assumes nothing.
+use mathlib.Core.Path.{_≡_, refl, ap}
+use mathlib.Core.Bool.{Bool, true, false}
+use mathlib.Core.List.{List, [], _∷_, _++_}
+use Prim.Native.Nat.{ℕ, _+_, _≤_, _<_}
+use native.Mathlib.Omega.{arith}
+use borrow.Author.Tests.{leb-true, leb-false}
+use lib.Dec.{leb}
+use Rattle.wire.specs.Bytes.{pick}
+use Rattle.wire.specs.declared.Refusal.{Refusal}
+use Rattle.wire.proofs.Determined.{determined}
+use Rattle.layout.specs.Layout.{total, firstCut, cutIn, sixteenAt, lastFour}
+
+-- The first field of a run that lacks bytes: those before it lie whole in n bytes, and it does not.
+pub record FirstLacking (ws : List ℕ) (at n place : ℕ) : Type 0 where
+  pub before : List ℕ
+  pub width : ℕ
+  pub behind : List ℕ
+  pub run-is : ws ≡ before ++ width ∷ behind
+  pub place-is : place ≡ at + total before
+  pub starts-inside : place ≤ n
+  pub ends-outside : n < place + width
+
+-- A run of fields that does not lie whole in the input is cut at the first field that lacks bytes.
+pub first-lacking : (ws : List ℕ) (at n : ℕ) → at ≤ n → n < at + total ws → FirstLacking ws at n (firstCut ws at n)
+first-lacking [] at n inside short = absurd (omega arith)
+first-lacking (w ∷ ws) at n inside short = go (leb (at + w) n) refl (first-lacking ws (at + w) n)
+  where
+    go : (b : Bool) → leb (at + w) n ≡ b
+        → (at + w ≤ n → n < at + w + total ws → FirstLacking ws (at + w) n (firstCut ws (at + w) n))
+        → FirstLacking (w ∷ ws) at n (pick b (firstCut ws (at + w) n) at)
+    go true h rest =
+        let r = rest (leb-true (at + w) n h) (omega arith) in
+        record {
+          before = w ∷ r .before;
+          width = r .width;
+          behind = r .behind;
+          run-is = ap (λ (l : List ℕ). w ∷ l) (r .run-is);
+          place-is = omega (arith, r .place-is);
+          starts-inside = r .starts-inside;
+          ends-outside = r .ends-outside;
+        }
+    go false h rest =
+        record {
+          before = [];
+          width = w;
+          behind = ws;
+          run-is = refl;
+          place-is = omega arith;
+          starts-inside = inside;
+          ends-outside = leb-false (at + w) n h;
+        }
+
+-- ---- any two answers that the contracts allow are equal
+pub cut-in-determined : (ws : List ℕ) (at n : ℕ) (r q : Refusal) → r ≡ cutIn ws at n → q ≡ cutIn ws at n → r ≡ q
+cut-in-determined ws at n r q = determined
+
+pub sixteen-at-determined : (s : List ℕ) (at : ℕ) (r q : List ℕ) → r ≡ sixteenAt s at → q ≡ sixteenAt s at → r ≡ q
+sixteen-at-determined s at r q = determined
+
+pub last-four-determined : (octets r q : List ℕ) → r ≡ lastFour octets → q ≡ lastFour octets → r ≡ q
+last-four-determined octets r q = determined

@@ -1,0 +1,30 @@
+-- A run of fields of fixed widths, one after the other.
+use Prim.Native.Nat.{ℕ, _+_}
+use mathlib.Core.List.{List, [], _∷_, _++_}
+use lib.Dec.{leb}
+use lib.ListN.{take, drop, replicate}
+use Rattle.wire.specs.Bytes.{pick, has}
+use Rattle.wire.specs.Read.{cutAt}
+use Rattle.wire.specs.declared.Refusal.{Refusal}
+
+-- how many bytes the fields take
+abbrev pub total : List ℕ → ℕ
+total [] = 0
+total (w ∷ ws) = w + total ws
+
+-- The place of the first field that does not lie whole in n bytes, where the first of them starts at a place; the end of the
+-- run, where each of them does.
+abbrev pub firstCut : List ℕ → ℕ → ℕ → ℕ
+firstCut [] at n = at
+firstCut (w ∷ ws) at n = pick (leb (at + w) n) (firstCut ws (at + w) n) at
+
+abbrev pub cutIn : List ℕ → ℕ → ℕ → Refusal
+cutIn ws at n = cutAt (firstCut ws at n)
+
+-- sixteen bytes at every place: zeros where not all of them are there
+abbrev pub sixteenAt : List ℕ → ℕ → List ℕ
+sixteenAt s at = pick (has 16 s at) (take 16 (drop at s)) (replicate 16 0)
+
+-- the last four of sixteen octets, and zeros before them
+abbrev pub lastFour : List ℕ → List ℕ
+lastFour octets = replicate 12 0 ++ drop 12 octets

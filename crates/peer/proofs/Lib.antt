@@ -1,0 +1,3 @@
+pub mod Told
+pub mod Equality
+pub mod Promises

@@ -1,0 +1,177 @@
+// Whose numbers a message carries: the record of a per-peer header, and what is asked of it (RFC 7854, section 4.2).
+use models::Afi;
+use models::Asn;
+use models::AsnLength;
+use models::BgpIdentifier;
+use models::IpAddr;
+use models::PeerDistinguisher;
+ghost use mathlib.Core.Path.{_≡_};
+ghost use Rattle.peer.specs.Peer.{kindOf, flagL, flagO, flagF, addressFamily, asnLength};
+ghost use Rattle.peer.specs.Header.{afiOf, asnLengthOf, peerTime, sameHeader, stripped};
+
+pub enum BmpPeerType {
+    Global,
+    RD,
+    Local,
+    LocalRib,
+}
+
+// The last of the types that are known, and the one whose header is another.
+pub const LOCAL_RIB: u8 = 3;
+
+impl BmpPeerType {
+    // The number that stands for the type on the wire.
+    pub fn number(self) -> u8
+        ensures { λ r. ⌜ r ≡ kindOf self ⌝ }
+    {
+        match self {
+            BmpPeerType::Global => 0,
+            BmpPeerType::RD => 1,
+            BmpPeerType::Local => 2,
+            BmpPeerType::LocalRib => LOCAL_RIB,
+        }
+    }
+}
+
+// The flags as they stand in the header, with the bits that have no meaning. A peer of types 0 to 2 has the first four, a Loc-RIB
+// the last: what a bit means depends on the type.
+pub struct PerPeerFlags(pub u8);
+
+const ADDRESS_FAMILY_IPV6: u8 = 0b1000_0000;
+
+const IS_POST_POLICY: u8 = 0b0100_0000;
+
+const AS_SIZE_16BIT: u8 = 0b0010_0000;
+
+const IS_ADJ_RIB_OUT: u8 = 0b0001_0000;
+
+const IS_FILTERED: u8 = 0b1000_0000;
+
+impl PerPeerFlags {
+    pub fn address_family(self) -> Afi
+        ensures { λ r. ⌜ r ≡ addressFamily (self .0) ⌝ }
+    {
+        if self.0 & ADDRESS_FAMILY_IPV6 != 0 {
+            return Afi::Ipv6;
+        }
+        Afi::Ipv4
+    }
+
+    pub fn is_post_policy(self) -> bool
+        ensures { λ r. ⌜ r ≡ flagL (self .0) ⌝ }
+    {
+        self.0 & IS_POST_POLICY != 0
+    }
+
+    pub fn asn_length(self) -> AsnLength
+        ensures { λ r. ⌜ r ≡ asnLength (self .0) ⌝ }
+    {
+        if self.0 & AS_SIZE_16BIT != 0 {
+            return AsnLength::Bits16;
+        }
+        AsnLength::Bits32
+    }
+
+    pub fn is_adj_rib_out(self) -> bool
+        ensures { λ r. ⌜ r ≡ flagO (self .0) ⌝ }
+    {
+        self.0 & IS_ADJ_RIB_OUT != 0
+    }
+
+    pub fn is_filtered(self) -> bool
+        ensures { λ r. ⌜ r ≡ flagF (self .0) ⌝ }
+    {
+        self.0 & IS_FILTERED != 0
+    }
+}
+
+// What tells apart two peers with one address is the type and the distinguisher. Beside the time stand the words that it comes from.
+pub struct BmpPerPeerHeader {
+    pub peer_type: BmpPeerType,
+    pub peer_flags: PerPeerFlags,
+    pub peer_distinguisher: PeerDistinguisher,
+    pub peer_ip: IpAddr,
+    pub peer_asn: Asn,
+    pub peer_bgp_id: BgpIdentifier,
+    pub timestamp: f64,
+    pub seconds: u32,
+    pub microseconds: u32,
+}
+
+pub enum PeerTime {
+    Unavailable,
+    At(f64),
+}
+
+impl BmpPerPeerHeader {
+    pub fn afi(self) -> Afi
+        ensures { λ r. ⌜ r ≡ afiOf self ⌝ }
+    {
+        let peer_ip = self.peer_ip;
+        peer_ip.afi
+    }
+
+    pub fn asn_length(self) -> AsnLength
+        ensures { λ r. ⌜ r ≡ asnLengthOf self ⌝ }
+    {
+        let peer_type = self.peer_type;
+        if peer_type.number() == LOCAL_RIB {
+            return AsnLength::Bits32;
+        }
+        let peer_flags = self.peer_flags;
+        peer_flags.asn_length()
+    }
+
+    // The words decide and not the f64, which -0.0 would fool.
+    pub fn peer_time(self) -> PeerTime
+        ensures { λ r. ⌜ r ≡ peerTime self ⌝ }
+    {
+        if self.seconds != 0 {
+            return PeerTime::At(self.timestamp);
+        }
+        if self.microseconds != 0 {
+            return PeerTime::At(self.timestamp);
+        }
+        PeerTime::Unavailable
+    }
+
+    // Two headers with one time are equal whatever words it comes from, since the Rust has no words to compare.
+    pub fn equals(self, other: BmpPerPeerHeader) -> bool
+        ensures { λ r. ⌜ r ≡ sameHeader self other ⌝ }
+    {
+        let peer_type = self.peer_type;
+        let other_type = other.peer_type;
+        let peer_ip = self.peer_ip;
+        let other_ip = other.peer_ip;
+        if peer_type.number() != other_type.number() {
+            return false;
+        }
+        if self.peer_flags.0 != other.peer_flags.0 {
+            return false;
+        }
+        if self.peer_distinguisher.0 != other.peer_distinguisher.0 {
+            return false;
+        }
+        if !peer_ip.equals(other_ip) {
+            return false;
+        }
+        if self.peer_asn.0 != other.peer_asn.0 {
+            return false;
+        }
+        if self.peer_bgp_id.0 != other.peer_bgp_id.0 {
+            return false;
+        }
+        self.timestamp == other.timestamp
+    }
+
+    // To compare headers whose times do not matter.
+    pub fn strip_timestamp(self) -> BmpPerPeerHeader
+        ensures { λ r. ⌜ r ≡ stripped self ⌝ }
+    {
+        let mut header = self;
+        header.timestamp = 0.0;
+        header.seconds = 0;
+        header.microseconds = 0;
+        header
+    }
+}

@@ -1,0 +1,163 @@
+-- What a user of the per-peer header relies on. The header has no table, so every good reading fits. Assumes nothing.
+use Prim.Native.Nat.{ℕ, _+_, _^_, _≤_, _<_}
+use mathlib.Core.Bool.{Bool, true, false, not, _&&_}
+use mathlib.Core.Path.{_≡_, refl, sym, ap, _∙_, subst}
+use mathlib.Core.List.{List, []}
+use native.Mathlib.Omega.{arith}
+use borrow.Author.Tests.{lt-ltb, le-ltb, eq-eqb}
+use lib.Dec.{T, lit<}
+use lib.Ieee.{binary64, fits}
+use lib.ListN.{length, take, drop, replicate, length-replicate}
+use lib.Seq.{length-take-le}
+use Rattle.wire.specs.Number as Number
+use Rattle.wire.specs.Bytes.{pick, numAt, numberAt, Bytes, none, more}
+use Rattle.wire.specs.Read.{refusal, noRefusal, cutAt}
+use Rattle.wire.proofs.Bytes.{num-lt, bytes-take, bytes-drop, number-is}
+use Rattle.wire.proofs.Views.{length-part}
+use Rattle.wire.proofs.Determined.{determined}
+use Rattle.writing.specs.Write.{lengthOf, writeAnswer, written}
+use Rattle.writing.specs.declared.WriteAnswer.{WriteAnswer}
+use Rattle.writing.specs.declared.WriteAnswer.the-variants.{Written}
+use Rattle.writing.proofs.Answers.{front}
+use Rattle.layout.specs.Layout.{firstCut, cutIn}
+use Rattle.layout.proofs.Promises.{FirstLacking, first-lacking}
+use Rattle.models.specs.Time.{timeOf}
+use Rattle.models.specs.declared.IpAddr.{IpAddr}
+use Rattle.models.proofs.Promises.{equals-is-equality, is-timestamp-is-equality}
+use Rattle.peer.specs.Peer.{kindOf}
+use Rattle.peer.specs.declared.BmpPeerType.{BmpPeerType}
+use Rattle.peer.specs.declared.BmpPeerType.the-variants.{Global, RD, Local, LocalRib}
+use Rattle.peer.specs.declared.BmpPerPeerHeader.{BmpPerPeerHeader}
+use Rattle.per_peer_header.specs.Grammar.{widths, AddressField, ipv4, ipv6, unused, AsField, as16, as32, Reading, addressBytes, join, Octets, AddressFits, AsFits, Layout, ipv4-as16, ipv4-as32, ipv6-as16, ipv6-as32, loc-rib, Good}
+use Rattle.per_peer_header.specs.Warnings.{strayAddress, noRouterId, warnings, countOnes}
+use Rattle.per_peer_header.specs.Shown.{shown, refused}
+use Rattle.per_peer_header.specs.Read.{partsOf, readPerPeerHeader}
+use Rattle.per_peer_header.specs.Write.{readingOf, bytesOf, writable, Typed}
+use Rattle.per_peer_header.specs.declared.PerPeerHeaderAnswer.{PerPeerHeaderAnswer}
+use Rattle.per_peer_header.proofs.Fields.{address-fits, as-fits, fields-layout, layout-known}
+use Rattle.per_peer_header.proofs.Laws.{length-join, parts-join, join-parts, Accepted, accepted, shows-parts}
+use Rattle.per_peer_header.proofs.Written.{good-reading, shown-again, again-writable}
+
+-- the answer to s shows r, and r is a good reading of s
+pub record Shows (s : List ℕ) (r : Reading) : Type 0 where
+  pub is-good : Good r
+  pub joined : join r ≡ s
+  pub shown-so : readPerPeerHeader s ≡ shown r
+
+-- What the reader accepts has a good reading, which it shows.
+pub sound : (s : List ℕ) → Bytes s → readPerPeerHeader s .refusal .number ≡ Number.Good → (r : Reading) × Shows s r
+sound s p e =
+    let a = accepted s e in
+    let sixteen : Octets 16 (take 16 (drop 10 s)) =
+    record { many = length-part s 10 16 (omega (arith, a .long)); are-bytes = bytes-take 16 (bytes-drop 10 p) } in (
+      partsOf s,
+      record {
+        is-good =
+            record {
+              flags-fit = num-lt 1 1 p;
+              distinguisher-fits = num-lt 8 2 p;
+              layout = fields-layout (numAt 1 s 0) (numAt 1 s 1) (take 16 (drop 10 s)) (numAt 4 s 26) (a .known);
+              address-fits = address-fits (numAt 1 s 0) (numAt 1 s 1) sixteen;
+              asn-fits = as-fits (numAt 1 s 0) (numAt 1 s 1) (numAt 4 s 26) (num-lt 4 26 p);
+              id-fits = num-lt 4 30 p;
+              seconds-fit = num-lt 4 34 p;
+              microseconds-fit = num-lt 4 38 p;
+              tail-bytes = bytes-drop 42 p;
+            };
+        joined = join-parts p (a .long);
+        shown-so = shows-parts s a;
+      },
+    )
+
+-- Every good reading is accepted, and shown.
+pub complete : (r : Reading) → Good r → length (join r) ≤ Number.limit → readPerPeerHeader (join r) ≡ shown r
+complete r g short =
+    let e = parts-join r g in
+    let a : Accepted (join r) =
+    record {
+      short = short;
+      long = omega (arith, length-join r g);
+      known = subst (λ (q : Reading). q .kind ≤ 3) (sym e) (layout-known (g .layout));
+    } in
+    shows-parts (join r) a ∙ ap shown e
+
+-- No input has two readings.
+pub unique : (r q : Reading) → Good r → Good q → join r ≡ join q → r ≡ q
+unique r q g h e = sym (parts-join r g) ∙ ap partsOf e ∙ parts-join q h
+
+-- ---- what is accepted and what is refused, for every input that is not too long
+module _ (s : List ℕ) (short : length s ≤ Number.limit) where
+  -- Whatever 42 bytes begin with a type of 0 to 3 are accepted.
+  pub accepts : 42 ≤ length s → numAt 1 s 0 ≤ 3 → readPerPeerHeader s .refusal ≡ noRefusal
+  accepts long known = ap (λ (a : PerPeerHeaderAnswer). a .refusal) (shows-parts s (record { short = short; long = long; known = known }))
+
+  -- A type above 3 is refused at its place, however much is missing behind it.
+  pub refuses-type : 0 < length s → 3 < numAt 1 s 0 → readPerPeerHeader s ≡ refused (refusal Number.UnknownKind 0)
+  refuses-type some unknown =
+      let e : numberAt 1 s 0 ≡ numAt 1 s 0 = number-is 1 s 0 (omega arith) in
+      rw (le-ltb Number.limit (length s) short, e, lt-ltb 3 (numAt 1 s 0) unknown)
+
+  -- A header that is cut is refused at the first field that lacks bytes.
+  pub refuses-cut : length s < 42 → numberAt 1 s 0 ≤ 3
+      → (readPerPeerHeader s ≡ refused (cutAt (firstCut widths 0 (length s)))) × FirstLacking widths 0 (length s) (firstCut widths 0 (length s))
+  refuses-cut cut known = (
+    rw (le-ltb Number.limit (length s) short, le-ltb 3 (numberAt 1 s 0) known, lt-ltb (length s) 42 cut),
+    first-lacking widths 0 (length s) (omega arith) (omega arith),
+  )
+
+-- ---- warnings
+-- The ones of the word are as many as the warnings that are given.
+pub warnings-counted : (r : Reading)
+    → countOnes 32 (warnings r)
+    ≡ pick (strayAddress (r .kind) (addressBytes (r .address))) 1 0 + pick (noRouterId (r .kind) (r .id) (r .distinguisher)) 1 0
+warnings-counted r = go (strayAddress (r .kind) (addressBytes (r .address))) (noRouterId (r .kind) (r .id) (r .distinguisher))
+  where
+    go : (a b : Bool) → countOnes 32 (pick a 1 0 + pick b 2 0) ≡ pick a 1 0 + pick b 1 0
+    go true true = refl
+    go true false = refl
+    go false true = refl
+    go false false = refl
+
+-- ---- the writer
+-- the bytes s are read as the header h, to their end
+pub record ReadsBack (h : BmpPerPeerHeader) (s : List ℕ) : Type 0 where
+  pub read-good : readPerPeerHeader s .refusal .number ≡ Number.Good
+  pub whole : readPerPeerHeader s .stop ≡ length s
+  pub same : readPerPeerHeader s .header ≡ h
+
+-- its own bytes are read as the header that its reading shows
+reads : (h : BmpPerPeerHeader) → Typed h → readPerPeerHeader (bytesOf h) ≡ shown (readingOf h)
+reads h t = let g = good-reading h t in complete (readingOf h) g (omega (arith, length-join (readingOf h) g))
+
+-- What the writer has written, where the header is writable and there is room, is read back as that header.
+pub round-trip : (h : BmpPerPeerHeader) → Typed h → (out out′ : List ℕ) (a : WriteAnswer)
+    → a ≡ writeAnswer (writable h) (length (bytesOf h)) (length out) → out′ ≡ written (writable h) (bytesOf h) out
+    → writable h ≡ true → length (bytesOf h) ≤ length out
+    → (a ≡ Written (length (bytesOf h))) × ReadsBack h (take (lengthOf a) out′)
+round-trip h t out out′ a ea eo w room =
+    let n = length-join (readingOf h) (good-reading h t) in
+    let f = front (writable h) (bytesOf h) out out′ a ea eo w (omega arith) room in
+    let r = reads h t in
+    let back : ReadsBack h (bytesOf h) =
+    record {
+      read-good = ap (λ (x : PerPeerHeaderAnswer). x .refusal .number) r;
+      whole = ap (λ (x : PerPeerHeaderAnswer). x .stop) r ∙ sym n;
+      same = ap (λ (x : PerPeerHeaderAnswer). x .header) r ∙ shown-again h t w;
+    } in
+    (f .answer-is, subst (ReadsBack h) (sym (f .bytes-are)) back)
+
+-- A header whose bytes are read back as itself is writable.
+pub only-writable : (h : BmpPerPeerHeader) → Typed h → ReadsBack h (bytesOf h) → writable h ≡ true
+only-writable h t r = again-writable h t (ap (λ (x : PerPeerHeaderAnswer). x .header) (sym (reads h t)) ∙ r .same)
+
+-- ---- any two answers, and any two outputs, that the contracts allow are equal
+pub parse-determined : (s : List ℕ) (a b : PerPeerHeaderAnswer) → a ≡ readPerPeerHeader s → b ≡ readPerPeerHeader s → a ≡ b
+parse-determined s a b = determined
+
+pub write-determined : (h : BmpPerPeerHeader) (out : List ℕ) (a b : WriteAnswer) (o p : List ℕ)
+    → a ≡ writeAnswer (writable h) (length (bytesOf h)) (length out) → b ≡ writeAnswer (writable h) (length (bytesOf h)) (length out)
+    → o ≡ written (writable h) (bytesOf h) out → p ≡ written (writable h) (bytesOf h) out → (a ≡ b) × (o ≡ p)
+write-determined h out a b o p ea eb eo ep = (determined ea eb, determined eo ep)
+
+pub warning-count-determined : (word a b : ℕ) → a ≡ countOnes 32 word → b ≡ countOnes 32 word → a ≡ b
+warning-count-determined word a b = determined

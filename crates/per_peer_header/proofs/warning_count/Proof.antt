@@ -1,0 +1,10 @@
+use native.Mathlib.Omega.{arith}
+use Rattle.per_peer_header.proofs.Warned.{ones-counted}
+use Rattle.per_peer_header.proofs.warning_count.Statement.{statement}
+use Rattle.per_peer_header.proofs.warning_count.Tie as tie
+
+returns : tie.Need-returns
+returns c = ones-counted 32 (c .args .warnings) (omega arith)
+
+pub warning-count-spec : {M : Type 1} → statement M
+warning-count-spec = tie.close (tie.spec returns)

@@ -1,0 +1,265 @@
+// The 42 bytes of a per-peer header (RFC 7854, section 4.2), read and written.
+use models::Afi;
+use models::Asn;
+use models::AsnLength;
+use models::BgpIdentifier;
+use models::IpAddr;
+use models::PeerDistinguisher;
+use peer::BmpPeerType;
+use peer::BmpPerPeerHeader;
+use peer::PerPeerFlags;
+use wire::Refusal;
+use writing::WriteAnswer;
+ghost use mathlib.Core.Path.{_≡_};
+ghost use mathlib.Core.Bool.{true, not, _&&_};
+ghost use Prim.Native.Nat.{_≤_, _+_};
+ghost use lib.Dec.{eqb};
+ghost use lib.ListN.{length};
+ghost use lib.Seq.{sets};
+ghost use Rattle.wire.specs.Bytes.{pick};
+ghost use Rattle.layout.specs.Layout.{cutIn};
+ghost use Rattle.writing.specs.Write.{writeAnswer, written};
+ghost use Rattle.peer.specs.Peer.{typeOf};
+ghost use Rattle.per_peer_header.specs.Grammar.{widths};
+ghost use Rattle.per_peer_header.specs.Warnings.{zeroFilled, warningsOf, countOnes};
+ghost use Rattle.per_peer_header.specs.Shown.{shownAddress, shownAsn, shown, refused};
+ghost use Rattle.per_peer_header.specs.Read.{addressField, asField, partsOf, readPerPeerHeader};
+ghost use Rattle.per_peer_header.specs.Write.{writable, bytesOf};
+
+// The header, the place after it and the warnings; where it is refused, the refusal and zeros.
+pub struct PerPeerHeaderAnswer {
+    pub refusal: Refusal,
+    pub stop: usize,
+    pub warnings: u32,
+    pub header: BmpPerPeerHeader,
+}
+
+// Warnings are bits of one word (docs/RULES.md, "Warnings"): the address of a Loc-RIB is not zero, and its router-id is.
+const STRAY_ADDRESS: u32 = 1;
+
+const NO_ROUTER_ID: u32 = 2;
+
+// How many warnings a word holds.
+pub fn warning_count(warnings: u32) -> u32
+    ensures { λ r. ⌜ r ≡ countOnes 32 warnings ⌝ }
+{
+    u32::count_ones(warnings)
+}
+
+// The type is judged before the length, so that an unknown one is named even where more is missing; where there is no byte at
+// all, u8_at gives 0 and the length refuses.
+pub fn parse_per_peer_header(s: &[u8]) -> PerPeerHeaderAnswer
+    ensures { λ r. ⌜ r ≡ readPerPeerHeader (now (s .entry)) ⌝ }
+{
+    if wire::LIMIT < s.len() {
+        return refused_with(Refusal {
+            number: wire::TOO_LONG,
+            place: 0,
+        });
+    }
+    if peer::LOCAL_RIB < wire::u8_at(s, 0) {
+        return refused_with(Refusal {
+            number: wire::UNKNOWN_KIND,
+            place: 0,
+        });
+    }
+    if s.len() < 42 {
+        return refused_with(cut(s.len()));
+    }
+    read_header(s)
+}
+
+// An address of 16 bytes is one field, and so is an AS of 4.
+fn cut(length: usize) -> Refusal
+    ensures { λ r. ⌜ r ≡ cutIn widths 0 length ⌝ }
+{
+    let widths = [1usize, 1, 8, 16, 4, 4, 4, 4];
+    layout::cut_in(&widths, 0, length)
+}
+
+// A refusal shows no header: all of it is zero, and its time unavailable.
+fn refused_with(refusal: Refusal) -> PerPeerHeaderAnswer
+    ensures { λ r. ⌜ r ≡ refused refusal ⌝ }
+{
+    let header = BmpPerPeerHeader {
+        peer_type: BmpPeerType::Global,
+        peer_flags: PerPeerFlags(0),
+        peer_distinguisher: PeerDistinguisher(0),
+        peer_ip: IpAddr::unspecified(),
+        peer_asn: Asn(0),
+        peer_bgp_id: BgpIdentifier(0),
+        timestamp: 0.0,
+        seconds: 0,
+        microseconds: 0,
+    };
+    PerPeerHeaderAnswer {
+        refusal: refusal,
+        stop: 0,
+        warnings: 0,
+        header: header,
+    }
+}
+
+fn read_header(s: &[u8]) -> PerPeerHeaderAnswer
+    requires { ⌜ 42 ≤ length (now s) ⌝ }
+    ensures { λ r. ⌜ r ≡ shown (partsOf (now (s .entry))) ⌝ }
+{
+    let kind = wire::u8_at(s, 0);
+    let flags = PerPeerFlags(wire::u8_at(s, 1));
+    let distinguisher = wire::u64_at(s, 2);
+    let address = layout::sixteen_at(s, 10);
+    let id = wire::u32_at(s, 30);
+    let seconds = wire::u32_at(s, 34);
+    let microseconds = wire::u32_at(s, 38);
+    let header = BmpPerPeerHeader {
+        peer_type: type_of(kind),
+        peer_flags: flags,
+        peer_distinguisher: PeerDistinguisher(distinguisher),
+        peer_ip: shown_address(kind, flags, address),
+        peer_asn: Asn(shown_asn(kind, flags, wire::u32_at(s, 26))),
+        peer_bgp_id: BgpIdentifier(id),
+        timestamp: models::timestamp(seconds, microseconds),
+        seconds: seconds,
+        microseconds: microseconds,
+    };
+    PerPeerHeaderAnswer {
+        refusal: Refusal {
+            number: wire::GOOD,
+            place: 0,
+        },
+        stop: 42,
+        warnings: warnings_of(kind, address, id, distinguisher),
+        header: header,
+    }
+}
+
+fn type_of(kind: u8) -> BmpPeerType
+    ensures { λ r. ⌜ r ≡ typeOf kind ⌝ }
+{
+    match kind {
+        0 => BmpPeerType::Global,
+        1 => BmpPeerType::RD,
+        2 => BmpPeerType::Local,
+        _ => BmpPeerType::LocalRib,
+    }
+}
+
+// The one place where the sixteen bytes of the field become the address that is shown.
+fn shown_address(kind: u8, flags: PerPeerFlags, octets: [u8; 16]) -> IpAddr
+    ensures { λ r. ⌜ r ≡ shownAddress (addressField kind (flags .0) octets) ⌝ }
+{
+    if kind == peer::LOCAL_RIB {
+        return IpAddr::unspecified();
+    }
+    match flags.address_family() {
+        Afi::Ipv6 => IpAddr {
+            octets: octets,
+            afi: Afi::Ipv6,
+        },
+        Afi::Ipv4 => IpAddr {
+            octets: layout::last_four(octets),
+            afi: Afi::Ipv4,
+        },
+    }
+}
+
+// The one place where the number of the field's four bytes becomes the AS that is shown.
+fn shown_asn(kind: u8, flags: PerPeerFlags, number: u32) -> u32
+    ensures { λ r. ⌜ r ≡ shownAsn (asField kind (flags .0) number) ⌝ }
+{
+    if kind == peer::LOCAL_RIB {
+        return number;
+    }
+    match flags.asn_length() {
+        AsnLength::Bits16 => number % 65_536,
+        AsnLength::Bits32 => number,
+    }
+}
+
+fn warnings_of(kind: u8, address: [u8; 16], id: u32, distinguisher: u64) -> u32
+    ensures { λ r. ⌜ r ≡ warningsOf kind address id distinguisher ⌝ }
+{
+    if kind != peer::LOCAL_RIB {
+        return 0;
+    }
+    word_of(is_zero_filled(address), lacks_router_id(id, distinguisher))
+}
+
+fn is_zero_filled(octets: [u8; 16]) -> bool
+    ensures { λ r. ⌜ r ≡ zeroFilled octets ⌝ }
+{
+    let address = IpAddr {
+        octets: octets,
+        afi: Afi::Ipv4,
+    };
+    address.equals(IpAddr::unspecified())
+}
+
+fn lacks_router_id(id: u32, distinguisher: u64) -> bool
+    ensures { λ r. ⌜ r ≡ eqb id 0 && not (eqb distinguisher 0) ⌝ }
+{
+    id == 0 && distinguisher != 0
+}
+
+fn word_of(zero_filled: bool, no_router_id: bool) -> u32
+    ensures { λ r. ⌜ r ≡ pick (not «zero_filled») 1 0 + pick «no_router_id» 2 0 ⌝ }
+{
+    if zero_filled {
+        if no_router_id { NO_ROUTER_ID } else { 0 }
+    } else {
+        if no_router_id {
+            STRAY_ADDRESS + NO_ROUTER_ID
+        } else {
+            STRAY_ADDRESS
+        }
+    }
+}
+
+pub fn write_per_peer_header(header: BmpPerPeerHeader, out: &mut [u8]) -> WriteAnswer
+    ensures { λ r. ⌜ r ≡ writeAnswer (writable header) (length (bytesOf header)) (length (now (out .entry))) ⌝ }
+    ensures { λ _. ⌜ now (out .exit) ≡ written (writable header) (bytesOf header) (now (out .entry)) ⌝ }
+{
+    let answer = writing::write_answer(is_writable(header), 42, out.len());
+    let WriteAnswer::Written(_) = answer else {
+        return answer;
+    };
+    put_header(header, out);
+    answer
+}
+
+fn is_writable(header: BmpPerPeerHeader) -> bool
+    ensures { λ r. ⌜ r ≡ writable header ⌝ }
+{
+    let peer_type = header.peer_type;
+    let peer_ip = header.peer_ip;
+    let octets = peer_ip.octets;
+    let kind = peer_type.number();
+    let flags = header.peer_flags;
+    let asn = header.peer_asn.0;
+    if !shown_address(kind, flags, octets).equals(peer_ip) {
+        return false;
+    }
+    if shown_asn(kind, flags, asn) != asn {
+        return false;
+    }
+    models::is_timestamp(header.timestamp, header.seconds, header.microseconds)
+}
+
+// In a writable header the octets that are skipped on reading are zero, so all sixteen are put as they are.
+fn put_header(header: BmpPerPeerHeader, out: &mut [u8])
+    requires { ⌜ writable header ≡ true ⌝ }
+    requires { ⌜ 42 ≤ length (now out) ⌝ }
+    ensures { λ _. ⌜ now (out .exit) ≡ sets (now (out .entry)) 0 (bytesOf header) ⌝ }
+{
+    let peer_type = header.peer_type;
+    let peer_ip = header.peer_ip;
+    let octets = peer_ip.octets;
+    writing::put_u8(out, 0, peer_type.number());
+    writing::put_u8(out, 1, header.peer_flags.0);
+    writing::put_u64(out, 2, header.peer_distinguisher.0);
+    writing::put_bytes(out, 10, &octets);
+    writing::put_u32(out, 26, header.peer_asn.0);
+    writing::put_u32(out, 30, header.peer_bgp_id.0);
+    writing::put_u32(out, 34, header.seconds);
+    writing::put_u32(out, 38, header.microseconds);
+}
