@@ -1,5 +1,5 @@
 -- Two headers that differ in a field are not equal, and two that differ in none are as their times are. Assumes nothing.
-use mathlib.Core.Bool.{Bool, true, false, _&&_, and-false}
+use mathlib.Core.Bool.{true, false, and-false}
 use mathlib.Core.Path.{_≡_}
 use borrow.Author.Tests.{eq-eqb, ne-eqb}
 use lib.Ieee.{eq}

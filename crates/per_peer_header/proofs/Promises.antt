@@ -1,16 +1,13 @@
 -- What a user of the per-peer header relies on. The header has no table, so every good reading fits. Assumes nothing.
-use Prim.Native.Nat.{ℕ, _+_, _^_, _≤_, _<_}
-use mathlib.Core.Bool.{Bool, true, false, not, _&&_}
+use Prim.Native.Nat.{ℕ, _+_, _≤_, _<_}
+use mathlib.Core.Bool.{Bool, true, false}
 use mathlib.Core.Path.{_≡_, refl, sym, ap, _∙_, subst}
-use mathlib.Core.List.{List, []}
+use mathlib.Core.List.{List}
 use native.Mathlib.Omega.{arith}
-use borrow.Author.Tests.{lt-ltb, le-ltb, eq-eqb}
-use lib.Dec.{T, lit<}
-use lib.Ieee.{binary64, fits}
-use lib.ListN.{length, take, drop, replicate, length-replicate}
-use lib.Seq.{length-take-le}
+use borrow.Author.Tests.{lt-ltb, le-ltb}
+use lib.ListN.{length, take, drop}
 use Rattle.wire.specs.Number as Number
-use Rattle.wire.specs.Bytes.{pick, numAt, numberAt, Bytes, none, more}
+use Rattle.wire.specs.Bytes.{pick, numAt, numberAt, Bytes}
 use Rattle.wire.specs.Read.{refusal, noRefusal, cutAt}
 use Rattle.wire.proofs.Bytes.{num-lt, bytes-take, bytes-drop, number-is}
 use Rattle.wire.proofs.Views.{length-part}
@@ -19,16 +16,10 @@ use Rattle.writing.specs.Write.{lengthOf, writeAnswer, written}
 use Rattle.writing.specs.declared.WriteAnswer.{WriteAnswer}
 use Rattle.writing.specs.declared.WriteAnswer.the-variants.{Written}
 use Rattle.writing.proofs.Answers.{front}
-use Rattle.layout.specs.Layout.{firstCut, cutIn}
+use Rattle.layout.specs.Layout.{firstCut}
 use Rattle.layout.proofs.Promises.{FirstLacking, first-lacking}
-use Rattle.models.specs.Time.{timeOf}
-use Rattle.models.specs.declared.IpAddr.{IpAddr}
-use Rattle.models.proofs.Promises.{equals-is-equality, is-timestamp-is-equality}
-use Rattle.peer.specs.Peer.{kindOf}
-use Rattle.peer.specs.declared.BmpPeerType.{BmpPeerType}
-use Rattle.peer.specs.declared.BmpPeerType.the-variants.{Global, RD, Local, LocalRib}
 use Rattle.peer.specs.declared.BmpPerPeerHeader.{BmpPerPeerHeader}
-use Rattle.per_peer_header.specs.Grammar.{widths, AddressField, ipv4, ipv6, unused, AsField, as16, as32, Reading, addressBytes, join, Octets, AddressFits, AsFits, Layout, ipv4-as16, ipv4-as32, ipv6-as16, ipv6-as32, loc-rib, Good}
+use Rattle.per_peer_header.specs.Grammar.{widths, Reading, addressBytes, join, Octets, Good}
 use Rattle.per_peer_header.specs.Warnings.{strayAddress, noRouterId, warnings, countOnes}
 use Rattle.per_peer_header.specs.Shown.{shown, refused}
 use Rattle.per_peer_header.specs.Read.{partsOf, readPerPeerHeader}

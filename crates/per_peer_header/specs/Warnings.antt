@@ -1,6 +1,6 @@
 -- What RFC 9069 asks of the header of a Loc-RIB, and a reader warns of. Each warning is a bit of one word.
 use Prim.Native.Nat.{ℕ, zero, suc, _+_, _/_, _%_}
-use mathlib.Core.Bool.{Bool, true, false, not, _&&_}
+use mathlib.Core.Bool.{Bool, true, not, _&&_}
 use mathlib.Core.List.{List, [], _∷_}
 use lib.Dec.{eqb}
 use Rattle.wire.specs.Bytes.{pick}
