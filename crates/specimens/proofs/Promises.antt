@@ -1,5 +1,5 @@
 -- Every specimen is answered as it must be. Assumes nothing.
-use mathlib.Core.List.{List, map}
+use mathlib.Core.List.{map}
 use mathlib.Core.Path.{_≡_, refl}
 use Rattle.wire.specs.Bytes.{value}
 use Rattle.wire.specs.Walk.{walk, fill}
