@@ -2,7 +2,7 @@
 use Prim.Native.Nat.{ℕ}
 use mathlib.Core.List.{List, [], _∷_}
 use Rattle.wire.specs.Number as Number
-use Rattle.specimens.specs.Told.{Told, number, Reader, common, initiation, termination, peer-down, mirroring}
+use Rattle.specimens.specs.Told.{Told, number, Reader, common, statistics, initiation, termination, peer-down, mirroring}
 
 pub record Specimen : Type 0 where
   pub reader : Reader
@@ -28,6 +28,18 @@ specimens =
     ∷ record { reader = common; bytes = 3 ∷ 0 ∷ 0 ∷ 0 ∷ 6 ∷ 7 ∷ []; answer = refused Number.UnknownKind 5 zeroCommon }
     -- nothing at all
     ∷ record { reader = common; bytes = []; answer = refused Number.Cut 0 zeroCommon }
+    -- 00000001 0007 0008 0000000000000100: a gauge of 256
+    ∷ record {
+      reader = statistics;
+      bytes = 0 ∷ 0 ∷ 0 ∷ 1 ∷ 0 ∷ 7 ∷ 0 ∷ 8 ∷ 0 ∷ 0 ∷ 0 ∷ 0 ∷ 0 ∷ 0 ∷ 1 ∷ 0 ∷ [];
+      answer = good 16 16 (number 1 ∷ number 7 ∷ number 8 ∷ number 1 ∷ number 256 ∷ []);
+    }
+    -- 00000001 0007 0004 00000003: a counter of 3, though type 7 is a gauge in the RFC
+    ∷ record {
+      reader = statistics;
+      bytes = 0 ∷ 0 ∷ 0 ∷ 1 ∷ 0 ∷ 7 ∷ 0 ∷ 4 ∷ 0 ∷ 0 ∷ 0 ∷ 3 ∷ [];
+      answer = good 12 12 (number 1 ∷ number 7 ∷ number 4 ∷ number 0 ∷ number 3 ∷ []);
+    }
     -- 0002 0001 41: one TLV
     ∷ record { reader = initiation; bytes = 0 ∷ 2 ∷ 0 ∷ 1 ∷ 65 ∷ []; answer = good 5 5 (number 2 ∷ number 1 ∷ (65 ∷ []) ∷ []) }
     -- 0002 0005 41: none, since its length is beyond the rest

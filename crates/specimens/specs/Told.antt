@@ -26,6 +26,12 @@ use Rattle.termination_message.specs.Read.{readTermination}
 use Rattle.termination_message.specs.declared.TerminationTlvValue.{TerminationTlvValue}
 use Rattle.termination_message.specs.declared.TerminationTlv.{TerminationTlv}
 use Rattle.termination_message.specs.declared.TerminationAnswer.{TerminationAnswer}
+use Rattle.stats_type.specs.Shown as StatsType
+use Rattle.stats_data.specs.Grammar.{Value, counter, gauge, afi-safi-gauge, raw}
+use Rattle.stats_data.specs.Write.{valueIn}
+use Rattle.stats_report.specs.Read.{readStats}
+use Rattle.stats_report.specs.declared.StatCounter.{StatCounter}
+use Rattle.stats_report.specs.declared.StatsAnswer.{StatsAnswer}
 
 -- number, place, stop, tail's start and fields; a value that views show is the list of its bytes
 pub record Told : Type 0 where
@@ -40,6 +46,7 @@ number n = n ∷ []
 
 pub data Reader : Type 0 where
   common : Reader
+  statistics : Reader
   initiation : Reader
   termination : Reader
   peer-down : Reader
@@ -54,6 +61,28 @@ toldCommon a =
       stop = Common.stopOf a;
       tail = Common.stopOf a;
       fields = number (Common.headerOf a .version) ∷ number (Common.headerOf a .«msg_len») ∷ number (Common.kindOf (Common.headerOf a .«msg_type»)) ∷ [];
+    }
+
+-- the count, and of each record type, length, form (0 counter, 1 gauge, 2 per AFI and SAFI, 3 raw) and what the form has
+abbrev pub toldForm : Value → List (List ℕ) → List (List ℕ)
+toldForm (counter n) l = number 0 ∷ number n ∷ l
+toldForm (gauge n) l = number 1 ∷ number n ∷ l
+toldForm (afi-safi-gauge afi safi n) l = number 2 ∷ number afi ∷ number safi ∷ number n ∷ l
+toldForm (raw b) l = number 3 ∷ b ∷ l
+
+abbrev pub toldCounters : List ℕ → List StatCounter → List (List ℕ)
+toldCounters s [] = []
+toldCounters s (t ∷ l) =
+    number (StatsType.kindOf (t .«stat_type»)) ∷ number (t .«stat_len») ∷ toldForm (valueIn s (t .«stat_data»)) (toldCounters s l)
+
+abbrev pub toldStatistics : List ℕ → StatsAnswer → Told
+toldStatistics s a =
+    record {
+      number = a .refusal .number;
+      place = a .refusal .place;
+      stop = a .stop;
+      tail = a .stop;
+      fields = number (a .report .«stats_count») ∷ toldCounters s (take (a .report .count) (a .report .counters));
     }
 
 -- of each TLV below the count type, length and value
@@ -130,3 +159,4 @@ told initiation s = toldInitiation s (readInitiation s)
 told peer-down s = toldPeerDown s (readPeerDown s)
 told mirroring s = toldMirroring s (readMirroring s)
 told termination s = toldTermination s (readTermination s)
+told statistics s = toldStatistics s (readStats s)

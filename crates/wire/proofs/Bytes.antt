@@ -9,7 +9,7 @@ use lib.Arith.{digits-lt, digits-div, digits-mod}
 use lib.Pow.{pow-add}
 use lib.Dec.{lit<}
 use lib.ListN.{length, take, drop, getD, length-append, length-take, length-drop, take-append-drop}
-use lib.Seq.{drop-cons, take-add, drop-drop, length-take-le}
+use lib.Seq.{drop-cons, take-add, take-take, take-all, drop-drop, length-take-le}
 use Rattle.wire.specs.Bytes.{be, value, Bytes, none, more, numAt, numberAt}
 
 positive : (w : ℕ) → 0 < 256 ^ w
@@ -141,3 +141,17 @@ num-back w {s} at p h = rw (be-num w at p h, ← drop-drop w at s) (take-append-
 
 pub part-back : (n : ℕ) (s : List ℕ) (at : ℕ) → take n (drop at s) ++ drop (at + n) s ≡ drop at s
 part-back n s at = rw (← drop-drop n at s) (take-append-drop n (drop at s))
+
+-- the last number of s, with nothing behind it
+pub num-last : (w : ℕ) {s : List ℕ} (at : ℕ) → Bytes s → at + w ≡ length s → be w (numAt w s at) ≡ drop at s
+num-last w {s} at p e = be-num w at p (omega arith) ∙ take-all w (drop at s) (simp length-drop (omega arith))
+
+-- ---- the number at a place of a part of n bytes, where it lies in the part
+part-take : (w j n : ℕ) (x : List ℕ) → j + w ≤ n → take w (drop j (take n x)) ≡ take w (drop j x)
+part-take w zero n x h = take-take w n x (omega arith)
+part-take w (suc j) zero x h = absurd (omega arith)
+part-take w (suc j) (suc n) [] h = refl
+part-take w (suc j) (suc n) (y ∷ x) h = part-take w j n x (omega arith)
+
+pub num-part : (w j n : ℕ) (s : List ℕ) (at : ℕ) → j + w ≤ n → numAt w (take n (drop at s)) j ≡ numAt w s (at + j)
+num-part w j n s at h = ap value (part-take w j n (drop at s) h) ∙ num-drop w j s at

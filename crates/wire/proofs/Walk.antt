@@ -288,6 +288,45 @@ module _ (K : Kit) {put : K .Item → List ℕ → List ℕ} {G : K .Item → Li
       let y : putTail t ≡ putTail u = cc in
       (ap (λ (w : Walked (K .Item)). w .items) q, sym (tails .ends t h .1) ∙ ap (tails .tailOf) y ∙ tails .ends u h′ .1)
 
+-- ---- a walk over a given number of items, whose step never stops by itself: what follows the last of them is the tail
+abbrev pub Never : Kit → Type 0
+Never K = (s : List ℕ) → K .step s ≡ stop → ⊥
+
+module _ (K : Kit) {put : K .Item → List ℕ → List ℕ} {G : K .Item → List ℕ → Type 0} (laws : Laws K put G) where
+  -- the reader shows a good reading of f items, and of the bytes z behind them, from a place on
+  pub record Counts (f at : ℕ) (s : List ℕ) (l : List (K .Item)) (z : List ℕ) : Type 0 where
+    pub each : EachGood put G l z
+    pub as-many : length l ≡ f
+    pub tail-bytes : Bytes z
+    pub joined : joinAll put l z ≡ drop at s
+    pub few : length l ≤ K .limit
+    pub shown-so : readFrom K f at s ≡ shows K at l z
+
+  pub counted-complete : (f at : ℕ) (s : List ℕ) (l : List (K .Item)) (z : List ℕ) → EachGood put G l z → length l ≡ f → Bytes z
+      → joinAll put l z ≡ drop at s → length l ≤ K .limit → Counts f at s l z
+  counted-complete f at s l z g n p e few =
+      let w : walk K f (drop at s) ≡ record { items = l; end = tail z } = ap (walk K f) (sym e) ∙ walk-join K laws l z f g (omega arith) (inr n) in
+      record { each = g; as-many = n; tail-bytes = p; joined = e; few = few; shown-so = shown-good K laws f at s l z w few }
+
+  pub counted-sound : Never K → (f at : ℕ) (s : List ℕ) → Bytes s → (c b : ℕ) (table : List (K .Entry)) (z : List ℕ) → readFrom K f at s ≡ good c b table z
+      → (l : List (K .Item)) × Counts f at s l z
+  counted-sound never f at s p c b table z e =
+      let w = walk K f (drop at s) in
+      let a = fill-accepts K (w .items) 0 at (replicate (K .limit) (K .none)) (w .end) c b table z (omega arith) e in
+      let y = walk-sound K laws f (drop at s) (bytes-drop at p) z (a .1) in
+      let n : length (w .items) ≡ f = ⊎-elim (λ h. absurd (never z h)) (λ h. h) (y .ended) in
+      (w .items, counted-complete f at s (w .items) z (y .each) n (y .are-bytes) (y .joined) (omega arith))
+
+  -- two good readings of as many items with equal joins are equal
+  pub counted-unique : (l k : List (K .Item)) (y z : List ℕ) → EachGood put G l y → EachGood put G k z → length l ≡ length k
+      → joinAll put l y ≡ joinAll put k z → (l ≡ k) × (y ≡ z)
+  counted-unique l k y z g h n e =
+      let f = length k in
+      let q : _≡_ {A = Walked (K .Item)} (record { items = l; end = tail y }) (record { items = k; end = tail z }) =
+      sym (walk-join K laws l y f g (omega arith) (inr n)) ∙ ap (walk K f) e ∙ walk-join K laws k z f h (omega arith) (inr refl) in
+      let t : tail y ≡ tail z = ap (λ (w : Walked (K .Item)). w .end) q in
+      (ap (λ (w : Walked (K .Item)). w .items) q, cc)
+
 -- ---- where each item stands: what holds of an item in front of what follows it, at its place, holds of each. For the bytes that views show
 pub each-at : (K : Kit) {put : K .Item → List ℕ → List ℕ} {G : K .Item → List ℕ → Type 0} → Laws K put G
     → (P : ℕ → K .Item → Type 0) (s : List ℕ) → ((at : ℕ) (a : K .Item) (r : List ℕ) → G a r → drop at s ≡ put a r → P at a)

@@ -6,3 +6,4 @@ pub mod Parts
 pub mod Tlv
 pub mod TlvAt
 pub mod Walk
+pub mod Arms

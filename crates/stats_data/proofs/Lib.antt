@@ -1,0 +1,3 @@
+pub mod Values
+pub mod Written
+pub mod Promises

@@ -1,0 +1,26 @@
+-- What the reader of a value answers, for every input.
+use Prim.Native.Nat.{ℕ, _+_}
+use mathlib.Core.List.{List}
+use lib.ListN.{take, drop}
+use lib.Dec.{eqb}
+use Rattle.wire.specs.Bytes.{pick, has, numAt}
+use Rattle.wire.specs.Read.{cutAt, cursor}
+use Rattle.stats_data.specs.Grammar.{Value, counter, gauge, afi-safi-gauge, raw}
+use Rattle.stats_data.specs.Shown.{dataAt}
+use Rattle.stats_data.specs.declared.StatsData.{StatsData}
+use Rattle.stats_data.specs.declared.ReadData.{ReadData}
+
+-- what the bytes of a value say: its length alone decides on the form
+unfoldable pub valueOf : ℕ → List ℕ → Value
+valueOf size b =
+    pick (eqb size 4) (counter (numAt 4 b 0))
+    (pick (eqb size 8) (gauge (numAt 8 b 0))
+    (pick (eqb size 11) (afi-safi-gauge (numAt 2 b 0) (numAt 1 b 2) (numAt 8 b 3))
+    (raw b)))
+
+-- a value of size bytes at a place, as the code answers it: the data and the cursor past it, or Cut at that place
+abbrev pub wholeData : ℕ → List ℕ → ℕ → StatsData → ReadData
+wholeData size s at d = pick (has size s at) (ReadData.Good d (cursor (at + size))) (ReadData.Cut (cutAt at))
+
+abbrev pub readData : ℕ → List ℕ → ℕ → ReadData
+readData size s at = wholeData size s at (dataAt at size (valueOf size (take size (drop at s))))

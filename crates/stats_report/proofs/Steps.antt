@@ -1,0 +1,118 @@
+-- One step of the walk by its cases; what `step_at` answers in each, and what its answer says of the step. Assumes nothing.
+use mathlib.Core.Path.{_≡_, refl, sym, ap, _∙_}
+use mathlib.Core.List.{List}
+use mathlib.Core.Bool.{Bool, true, false}
+use Prim.Native.Nat.{ℕ, _+_, _-_, _≤_, _<_}
+use native.Mathlib.Omega.{arith}
+use native.Mathlib.Nat.{add-zero}
+use borrow.Author.Tests.{lt-ltb, le-ltb, ltb-true, ltb-false}
+use lib.Dec.{ltb}
+use lib.ListN.{length, take, drop, length-drop}
+use lib.Seq.{drop-drop}
+use Rattle.wire.specs.Bytes.{pick, numAt}
+use Rattle.wire.specs.Read.{cutAt}
+use Rattle.wire.specs.TlvAt.{tlvOf}
+use Rattle.wire.specs.Walk as Walk
+use Rattle.wire.specs.Walk.{stop, bad, item, from}
+use Rattle.wire.specs.declared.Refusal.{Refusal}
+use Rattle.wire.specs.declared.Cursor.{Cursor}
+use Rattle.stats_type.specs.Shown.{typeOf}
+use Rattle.stats_report.specs.Grammar.{Stat}
+use Rattle.stats_report.specs.Shown.{sizeOf, entry}
+use Rattle.stats_data.specs.Shown.{dataAt}
+use Rattle.stats_data.specs.Read.{valueOf, readData}
+use Rattle.stats_data.specs.declared.StatsData.{StatsData}
+use Rattle.stats_data.specs.declared.ReadData.{ReadData}
+use Rattle.stats_data.proofs.Values.{was-data}
+use Rattle.stats_report.specs.Read.{asStat, step, told, stepAt}
+use Rattle.stats_report.specs.declared.StatCounter.{StatCounter}
+use Rattle.stats_report.specs.declared.Step.the-variants.{Bad, Whole}
+
+pub data Seen (s : List ℕ) : Walk.Step Stat → Type 0 where
+  no-type : length s < 2 → Seen s (bad (cutAt 0))
+  no-length : 2 ≤ length s → length s < 4 → Seen s (bad (cutAt 2))
+  no-value : 4 ≤ length s → length s - 4 < numAt 2 s 2 → Seen s (bad (cutAt 4))
+  whole : 4 ≤ length s → numAt 2 s 2 ≤ length s - 4 → Seen s (item (asStat (tlvOf s)))
+
+pub see : (s : List ℕ) → Seen s (step s)
+unfolding step
+see s = go (ltb (length s) 2) refl (ltb (length s) 4) refl (ltb (length s - 4) (numAt 2 s 2)) refl
+  where
+    go : (a : Bool) → ltb (length s) 2 ≡ a → (b : Bool) → ltb (length s) 4 ≡ b → (c : Bool) → ltb (length s - 4) (numAt 2 s 2) ≡ c
+        → Seen s (pick a (bad (cutAt 0)) (pick b (bad (cutAt 2)) (pick c (bad (cutAt 4)) (item (asStat (tlvOf s))))))
+    go true h b k c l = no-type (ltb-true (length s) 2 h)
+    go false h true k c l = no-length (ltb-false (length s) 2 h) (ltb-true (length s) 4 k)
+    go false h false k true l = no-value (ltb-false (length s) 4 k) (ltb-true (length s - 4) (numAt 2 s 2) l)
+    go false h false k false l = whole (ltb-false (length s) 4 k) (ltb-false (length s - 4) (numAt 2 s 2) l)
+
+pub of : (s : List ℕ) {x : Walk.Step Stat} → Seen s x → step s ≡ x
+unfolding step
+of s (no-type h) = rw (lt-ltb (length s) 2 h)
+of s (no-length h k) = rw (le-ltb (length s) 2 h, lt-ltb (length s) 4 k)
+of s (no-value h k) = rw (le-ltb (length s) 2 (omega arith), le-ltb (length s) 4 h, lt-ltb (length s - 4) (numAt 2 s 2) k)
+of s (whole h k) = rw (le-ltb (length s) 2 (omega arith), le-ltb (length s) 4 h, le-ltb (length s - 4) (numAt 2 s 2) k)
+
+-- ---- what the step's answer says of the bytes
+pub record Found (s : List ℕ) (t : Stat) : Type 0 where
+  pub is : asStat (tlvOf s) ≡ t
+  pub long : 4 ≤ length s
+  pub there : numAt 2 s 2 ≤ length s - 4
+
+pub found : (s : List ℕ) (t : Stat) {x : Walk.Step Stat} → Seen s x → x ≡ item t → Found s t
+found s t (no-type h) q = let z : _≡_ {A = ℕ} 0 1 = cc in absurd (omega arith)
+found s t (no-length h k) q = let z : _≡_ {A = ℕ} 0 1 = cc in absurd (omega arith)
+found s t (no-value h k) q = let z : _≡_ {A = ℕ} 0 1 = cc in absurd (omega arith)
+found s t (whole h k) q = record { is = cc; long = h; there = k }
+
+pub no-stop : (s : List ℕ) {x : Walk.Step Stat} → Seen s x → x ≡ stop → ⊥
+no-stop s (no-type h) q = let z : _≡_ {A = ℕ} 0 1 = cc in omega arith
+no-stop s (no-length h k) q = let z : _≡_ {A = ℕ} 0 1 = cc in omega arith
+no-stop s (no-value h k) q = let z : _≡_ {A = ℕ} 0 1 = cc in omega arith
+no-stop s (whole h k) q = let z : _≡_ {A = ℕ} 0 1 = cc in omega arith
+
+pub is-fault : (s : List ℕ) (r : Refusal) {x : Walk.Step Stat} → Seen s x → x ≡ bad r → 0 < r .number
+is-fault s r (no-type h) q = let z : cutAt 0 ≡ r = cc in omega (arith, ap (λ (x : Refusal). x .number) z)
+is-fault s r (no-length h k) q = let z : cutAt 2 ≡ r = cc in omega (arith, ap (λ (x : Refusal). x .number) z)
+is-fault s r (no-value h k) q = let z : cutAt 4 ≡ r = cc in omega (arith, ap (λ (x : Refusal). x .number) z)
+is-fault s r (whole h k) q = let z : _≡_ {A = ℕ} 0 1 = cc in absurd (omega arith)
+
+-- ---- each answer of `step_at`
+module _ (s : List ℕ) (at : ℕ) where
+  pub no-type-at : length s - at < 2 → stepAt s at ≡ Bad (cutAt at)
+  no-type-at h = rw (of (drop at s) (no-type (simp length-drop h)), add-zero at)
+
+  pub no-length-at : (place : ℕ) → place ≡ at + 2 → 2 ≤ length s - at → length s - place < 2 → stepAt s at ≡ Bad (cutAt place)
+  no-length-at place e h k = rw (of (drop at s) (no-length (simp length-drop h) (simp length-drop (omega arith))), e)
+
+  module _ (long : 4 ≤ length s - at) (size : ℕ) (size-is : numAt 2 (drop at s) 2 ≡ size) (place : ℕ) (place-is : place ≡ at + 4) where
+    pub no-value-at : length s - place < size → stepAt s at ≡ Bad (cutAt place)
+    no-value-at h = rw (of (drop at s) (no-value (simp length-drop long) (rw (length-drop, size-is) (omega arith))), place-is)
+
+    pub whole-at : (kind : ℕ) → numAt 2 (drop at s) 0 ≡ kind → (d : StatsData) (c : Cursor) → ReadData.Good d c ≡ readData size s place
+        → stepAt s at ≡ Whole (record { «stat_type» = typeOf kind; «stat_len» = size; «stat_data» = d }) c
+    whole-at kind kind-is d c e =
+        let x = drop at s in
+        let w = was-data size s place d c e in
+        let there : drop 4 x ≡ drop place s = drop-drop 4 at s ∙ ap (λ (j : ℕ). drop j s) (sym place-is) in
+        let data-is : dataAt (at + 4) (numAt 2 x 2) (valueOf (numAt 2 x 2) (take (numAt 2 x 2) (drop 4 x))) ≡ d = rw (size-is, there, ← place-is) (sym (w .data-is)) in
+        let end-is : at + (4 + numAt 2 x 2) ≡ c .at = omega (arith, w .next) in
+        ap (told at) (of x (whole (simp length-drop long) (rw (length-drop, size-is) (omega (arith, w .left)))))
+        ∙ (λ i. Whole (record { «stat_type» = typeOf (kind-is i); «stat_len» = size-is i; «stat_data» = data-is i }) (record { at = end-is i }))
+
+-- ---- and the other way
+pub was-bad : (at : ℕ) (r : Refusal) (s : List ℕ) → told at (step s) ≡ Bad r → (q : Refusal) × (step s ≡ bad q) × (from at q ≡ r)
+was-bad at r s e = go (step s) refl e
+  where
+    go : (x : Walk.Step Stat) → step s ≡ x → told at x ≡ Bad r → (q : Refusal) × (step s ≡ bad q) × (from at q ≡ r)
+    go stop h p = absurd (no-stop s (see s) h)
+    go (bad q) h p = (q, h, cc)
+    go (item t) h p = (r, cc, cc)
+
+pub was-whole : (at : ℕ) (u : StatCounter) (c : Cursor) (s : List ℕ) → told at (step s) ≡ Whole u c
+    → (t : Stat) × (step s ≡ item t) × (entry at t ≡ u) × (at + sizeOf t ≡ c .at)
+was-whole at u c s e = go (step s) refl e
+  where
+    go : (x : Walk.Step Stat) → step s ≡ x → told at x ≡ Whole u c → (t : Stat) × (step s ≡ item t) × (entry at t ≡ u) × (at + sizeOf t ≡ c .at)
+    go stop h p = absurd (no-stop s (see s) h)
+    go (bad q) h p = (asStat (tlvOf s), cc, cc, cc)
+    go (item t) h p = (t, h, cc, cc)

@@ -1,0 +1,14 @@
+use borrow.Author.Needs.{needs}
+use Rattle.stats_report.specs.Shown.{zeroTable}
+use Rattle.stats_report.proofs.refused.Statement.{statement}
+use Rattle.stats_report.proofs.refused.Tie as tie
+
+zero-counter-requires : tie.Need-zero-counter-requires
+zero-counter-requires c κs = search needs
+
+returns : tie.Need-returns
+unfolding zeroTable
+returns c = rw (c .zero-counter .ensures)
+
+pub refused-spec : {M : Type 1} → statement M
+refused-spec = tie.close (tie.spec zero-counter-requires returns)

@@ -1,0 +1,52 @@
+-- What the reader answers, for every input.
+use Prim.Native.Nat.{ℕ, _+_, _-_}
+use mathlib.Core.List.{List}
+use lib.ListN.{length, drop}
+use lib.Dec.{ltb}
+use Rattle.wire.specs.Number as Number
+use Rattle.wire.specs.Bytes.{pick, has, numAt}
+use Rattle.wire.specs.Read.{refusal, noRefusal, cutAt, cursor}
+use Rattle.wire.specs.Tlv.{Tlv}
+use Rattle.wire.specs.TlvAt.{tlvOf}
+use Rattle.wire.specs.Walk as Walk
+use Rattle.wire.specs.Walk.{stop, bad, item, Kit, Out, good, refused, from, readFrom}
+use Rattle.stats_data.specs.Read.{valueOf}
+use Rattle.stats_report.specs.Grammar.{Stat}
+use Rattle.stats_report.specs.Shown.{places, sizeOf, entry, zeroCounter, goodAnswer, refusedAnswer}
+use Rattle.stats_report.specs.declared.StatCounter.{StatCounter}
+use Rattle.stats_report.specs.declared.StatsAnswer.{StatsAnswer}
+use Rattle.stats_report.specs.declared.Step.{Step}
+use Rattle.stats_report.specs.declared.Step.the-variants.{Bad, Whole}
+
+abbrev pub asStat : Tlv → Stat
+asStat t = record { kind = t .kind; size = t .size; value = valueOf (t .size) (t .value) }
+
+-- type, length and value, each Cut at its own place
+unfoldable pub step : List ℕ → Walk.Step Stat
+step s =
+    pick (ltb (length s) 2) (bad (cutAt 0))
+    (pick (ltb (length s) 4) (bad (cutAt 2))
+    (pick (ltb (length s - 4) (numAt 2 s 2)) (bad (cutAt 4))
+    (item (asStat (tlvOf s)))))
+
+abbrev pub kit : Kit
+kit = record { Item = Stat; Entry = StatCounter; step = step; size = sizeOf; entry = entry; none = zeroCounter; limit = places }
+
+-- one step at a place, as the code answers it: the fault, or the entry and the cursor past it; the step never stops by itself
+abbrev pub told : ℕ → Walk.Step Stat → Step
+told at stop = Bad noRefusal
+told at (bad r) = Bad (from at r)
+told at (item t) = Whole (entry at t) (cursor (at + sizeOf t))
+
+abbrev pub stepAt : List ℕ → ℕ → Step
+stepAt s at = told at (step (drop at s))
+
+abbrev pub answer : ℕ → Out StatCounter → StatsAnswer
+answer total (good n at table z) = goodAnswer total n at table
+answer total (refused r) = refusedAnswer r
+
+-- the count, and then as many records as it says
+abbrev pub readStats : List ℕ → StatsAnswer
+readStats s =
+    pick (ltb Number.limit (length s)) (refusedAnswer (refusal Number.TooLong 0))
+    (pick (has 4 s 0) (answer (numAt 4 s 0) (readFrom kit (numAt 4 s 0) 4 s)) (refusedAnswer (cutAt 0)))
