@@ -1,0 +1,60 @@
+use borrow.Author.Needs.{needs}
+use denote.Ref.{now}
+use borrow.Author.Tests.{lt-ltb}
+use mathlib.Core.Path.{sym, ap, _∙_}
+use lib.ListN.{length}
+use Rattle.stats_report.specs.Shown.{refusedAnswer}
+use Rattle.stats_report.proofs.Laws.{no-count, counted}
+use Rattle.wire.proofs.Reading.{was-got, was-cut, told32, tells32}
+use Rattle.stats_report.proofs.parse_stats_report.Statement.{statement}
+use Rattle.stats_report.proofs.parse_stats_report.Tie as tie
+use Rattle.wire.specs.Number as Number
+
+refused-at-requires : tie.Need-refused-at-requires
+refused-at-requires c κs = search needs
+
+returns : tie.Need-returns
+returns c = rw (lt-ltb Number.limit (length (now (c .before .before .before .args .s))) (c .before .if1 .taken)) (c .refused-at .ensures)
+
+read-u32-requires : tie.Need-read-u32-requires
+read-u32-requires c κs = search needs
+
+enum-known-stats-count : tie.Need-enum-known-stats-count
+enum-known-stats-count c = search needs
+
+enum-told : tie.Need-enum-told
+enum-told c = search needs
+
+cut-at-requires : tie.Need-cut-at-requires
+cut-at-requires c κs = search needs
+
+refused-requires : tie.Need-refused-requires
+refused-requires c κs = search needs
+
+returns-2 : tie.Need-returns-2
+returns-2 c =
+    let h = was-cut 4 (now (c .before .before .before .before .before .before .before .args .s)) 0 (ap told32 (c .before .before .enum-told .given .1)) (tells32 _ (c .before .before .before .before .read-u32 .ensures)) in
+    c .refused .ensures ∙ ap refusedAnswer (c .before .cut-at .ensures) ∙ sym (no-count (now (c .before .before .before .before .before .before .before .args .s)) (c .before .before .before .before .before .if1 .left) h)
+
+read-counters-requires : tie.Need-read-counters-requires
+read-counters-requires c κs = search needs
+
+returns-3 : tie.Need-returns-3
+returns-3 c =
+    let w = was-got 4 (now (c .before .before .before .before .before .before .before .args .s)) 0 (ap told32 (c .before .before .stats-count .given .1)) (tells32 _ (c .before .before .before .before .read-u32 .ensures)) in
+    c .read-counters .ensures ∙ sym (counted (now (c .before .before .before .before .before .before .before .args .s)) (c .before .before .before .before .before .if1 .left) _ _ w)
+
+pub parse-stats-report-spec : {M : Type 1} → statement M
+parse-stats-report-spec =
+    tie.close
+    (tie.spec
+    refused-at-requires
+    returns
+    read-u32-requires
+    enum-known-stats-count
+    enum-told
+    cut-at-requires
+    refused-requires
+    returns-2
+    read-counters-requires
+    returns-3)
