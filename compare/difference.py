@@ -1,0 +1,119 @@
+#!/usr/bin/env python3
+"""compare/difference.py OURS ORACLE [LIST]: compares two files of answers to one list, ours and the oracle's.
+
+Left out are the parts that the Rust does not have (tail, sec, usec, time), and Route Monitoring's stop. All else is equal or is printed,
+with the line of LIST where that is given. Strings are compared as bytes, whatever the bytes are. A refusal of ours goes with a refusal of
+the Rust under a name that the number stands for; a name does not tell the number.
+
+Not compared: lines with a BGP message that the oracle cannot accept (`outside`), verbs that it does not have (`none`), and answers of 7
+where the Rust's table is longer than ours, or the Rust refuses what comes later. The one difference that is intended (warning 8 goes by
+bytes here, and by UTF-8 in the Rust) is known by what it must look like, and counted apart.
+
+After the differences come the pairs of number and name that were met, and in the last line the counts. The exit status is 0 where nothing
+differs.
+"""
+
+import collections
+import itertools
+import re
+import sys
+
+# 3, 5, 8 and 9 stand for one name each. Of the others only the refusal would have to agree; their names are held as well. No line is long
+# enough for 1, and no reader gives a number above 9.
+NAMES = {
+    2: {"CorruptedBgpMessage"},
+    3: {"CorruptedBmpMessage"},
+    4: {"CorruptedBmpMessage", "UnknownMessageType", "UnknownTlvType", "UnknownTlvValue"},
+    5: {"CorruptedBmpMessage"},
+    6: {"CorruptedBgpMessage"},
+    8: {"InvalidOpenBmpHeader"},
+    9: {"UnsupportedOpenBmpMessage"},
+}
+TOO_MANY = 7
+NAME_LENGTH_BIT = 8
+MOST = {"tlvs": 32, "counters": 64}
+KINDS = ("equal", "refused by both", "warning 8 by bytes", "outside", "no such verb", "above the limits", "different")
+
+OURS_ALONE = re.compile(r" (?:tail|sec|usec|time)=[^ ]*")
+MONITORING_STOP = re.compile(r"^good stop=\d+ (?=warn=\d+ bgp=)")
+REFUSED = re.compile(r"refused (\d+) at \d+")
+WARNINGS = re.compile(r" warn=(\d+) ")
+TABLE_NAMES = re.compile(r"[\[,]3:\d+:N:([0-9a-f]*)")
+TABLE = re.compile(r"(tlvs|counters)=\[(.*)\]$")
+
+
+def plain(answer):
+    """An answer without what is not compared."""
+    return MONITORING_STOP.sub("good ", OURS_ALONE.sub("", answer))
+
+
+def is_warning_by_bytes(ours, oracle):
+    """Whether two Peer Ups differ in the bit about the length of table names alone, and each has it exactly as its own measure says."""
+    here, there = WARNINGS.search(ours), WARNINGS.search(oracle)
+    if not here or not there or "lport=" not in ours or WARNINGS.sub(" ", ours) != WARNINGS.sub(" ", oracle):
+        return False
+    names = [bytes.fromhex(name) for name in TABLE_NAMES.findall(ours)]
+    by_bytes = any(not 1 <= len(name) <= 255 for name in names)
+    by_utf8 = any(not 1 <= len(name.decode("latin-1").encode("utf-8")) <= 255 for name in names)
+    here, there = int(here[1]), int(there[1])
+    return here ^ there == NAME_LENGTH_BIT and bool(here & NAME_LENGTH_BIT) == by_bytes and bool(there & NAME_LENGTH_BIT) == by_utf8
+
+
+def too_many(oracle):
+    """Whether the Rust's answer allows a 7 of ours."""
+    if oracle.startswith("refused "):
+        return True
+    table = TABLE.search(oracle)
+    return bool(table) and table[2].count(",") + 1 > MOST[table[1]]
+
+
+def kind(ours, oracle):
+    """One of KINDS for two answers to one line."""
+    if oracle == "outside":
+        return "outside"
+    if oracle == "none":
+        return "different" if ours == "bad line" else "no such verb"
+    refused = REFUSED.fullmatch(ours)
+    if refused and int(refused[1]) == TOO_MANY:
+        return "above the limits" if too_many(oracle) else "different"
+    if refused:
+        return "refused by both" if oracle.removeprefix("refused ") in NAMES.get(int(refused[1]), ()) else "different"
+    ours, oracle = plain(ours), plain(oracle)
+    if ours == oracle:
+        return "equal"
+    return "warning 8 by bytes" if is_warning_by_bytes(ours, oracle) else "different"
+
+
+def lines(path):
+    """The lines of a file that are not empty: an empty line of the list has no answer."""
+    with open(path, "rb") as file:
+        for line in file:
+            if line != b"\n":
+                yield line.removesuffix(b"\n").decode("ascii", "backslashreplace")
+
+
+def compare(ours, oracle, asked=None):
+    """Compares two files of answers, prints what was found, and tells whether nothing differs."""
+    counts, pairs = collections.Counter(), collections.Counter()
+    rows = itertools.zip_longest(lines(ours), lines(oracle), lines(asked) if asked else ())
+    for number, (here, there, line) in enumerate(rows, 1):
+        if here is None or there is None or (asked and line is None):
+            print(f"{number}: one of the files ends here")
+            counts["different"] += 1
+            break
+        found = kind(here, there)
+        counts[found] += 1
+        if found == "refused by both":
+            pairs[here.split()[1], there.split()[1]] += 1
+        if found == "different":
+            print(f"{number}: {line or ''}\n  ours    {here}\n  oracle  {there}")
+    for (number, name), count in sorted(pairs.items()):
+        print(f"refused {number}, {name} in the Rust: {count}")
+    print(f"{counts.total()} lines: " + ", ".join(f"{counts[each]} {each}" for each in KINDS))
+    return counts["different"] == 0
+
+
+if __name__ == "__main__":
+    if len(sys.argv) not in (3, 4):
+        sys.exit("usage: compare/difference.py OURS ORACLE [LIST]")
+    sys.exit(0 if compare(*sys.argv[1:]) else 1)
