@@ -2,8 +2,8 @@
 """compare/generate.py CASES SEED: lines of the replay language on standard output.
 
 First the fixed cases, the same for every seed: every input of no byte and of one byte, the short inputs of each layout, a whole message of
-each kind cut at every length and with every byte changed, the limits of the tables, and lines that are not of the language. Then CASES
-generated ones: messages of every kind, most of them sound, the others cut, changed, lengthened or made of random bytes.
+each kind cut at every length, with every byte changed, and both at once, the limits of the tables, and lines that are not of the language.
+Then CASES generated ones: messages of every kind, most of them sound, the others cut, changed, lengthened or made of random bytes.
 """
 
 import itertools
@@ -71,6 +71,13 @@ def cut_and_changed():
         for tail in range(1, 7):
             yield reader, data + bytes(tail)
             yield reader, data + b"\xff" * tail
+
+
+def changed_and_cut():
+    """Two faults at once, so that it shows which of them is met first."""
+    for reader, data in WHOLE.items():
+        for place, end in itertools.combinations(range(len(data) + 1), 2):
+            yield reader, data[:place] + bytes([data[place] ^ 0xFF]) + data[place + 1:end]
 
 
 def short_headers():
@@ -196,7 +203,7 @@ def fixed():
     for data in bytes_of_one:
         yield line("split", "-", data)
     for number, (reader, data) in enumerate(itertools.chain(
-            cut_and_changed(), short_headers(), short_walks(), short_embedded(), names_of_tables(), limits(), long_inputs())):
+            cut_and_changed(), changed_and_cut(), short_headers(), short_walks(), short_embedded(), names_of_tables(), limits(), long_inputs())):
         choices = ARGUMENTS[reader]
         # Type 3 brings warnings and the others do not, so it is always among the arguments that are tried.
         for arguments in dict.fromkeys((choices[number % len(choices)], choices[-1], choices[3 % len(choices)])):
