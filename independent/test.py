@@ -1,0 +1,745 @@
+"""Tests of this folder's programs. Every expected answer comes from outside them: from docs/RULES.md and docs/REPLAY.md, from
+exact arithmetic, and from what another program saw in recordings of real routers.
+
+    python3 independent/test.py [FOLDER]
+
+FOLDER holds recordings NAME.bmp, each with its NAME.summary.txt; without it the recordings are left out.
+"""
+
+import ast
+import glob
+import ipaddress
+import os
+import re
+import subprocess
+import sys
+import tempfile
+import unittest
+from fractions import Fraction
+
+import bmp
+import listing
+import replay
+
+FOLDER = sys.argv[1] if len(sys.argv) > 1 else None
+
+HEADER = "00 00 0000000000000000 000000000000000000000000 0a000001 0000fde8 0a0a0a0a 00000001 0007a120"
+LOC_RIB_HEADER = "03 00 0000000000000000 00000000000000000000000000000000 0000fde8 0a0a0a0a 00000000 00000000"
+
+
+def digits(text):
+    return text.replace(" ", "").lower()
+
+
+def ask(verb, text, args="-"):
+    return replay.answer(f"{verb} {args} {digits(text) or '-'}".encode())
+
+
+def open_message(length=29, own=None):
+    return bytes([0xFF] * 16) + (length if own is None else own).to_bytes(2, "big") + bytes([1]) + bytes(length - 19)
+
+
+def peer_up(tlvs="", sent=None, received=None):
+    return digits(
+        "000000000000000000000000 0a000002 00b3 c001"
+        + (open_message() if sent is None else sent).hex()
+        + (open_message(19) if received is None else received).hex()
+        + tlvs
+    )
+
+
+def open_bmp(magic="4f424d50", versions="0107", flags="80", kind="0c", admin="0002 6162", group="0001 63", rows="00000001"):
+    return digits(
+        magic + versions + "0050 00000006" + flags + kind + "00000001 000f4240" + "11" * 16 + admin + "22" * 16
+        + "0a000001" + "33" * 12 + group + rows
+    )
+
+
+class Examples(unittest.TestCase):
+    """Examples that stand in the rules, word for word."""
+
+    LINES = """
+        common - 030000000604                        | good stop=6 tail=6 warn=0 version=3 length=6 type=4
+        common - 030000000607                        | refused 4 at 5
+        split - 030000000506                         | refused 10 at 1
+        initiation - 0002000541                      | good stop=4 tail=0 warn=0 tlvs=[]
+        initiation - 00020001410001000142            | good stop=10 tail=10 warn=0 tlvs=[2:1:N:41,1:1:N:42]
+        termination - 0001000103                     | refused 2 at 4
+        mirroring asn=32,type=0 000100070001         | good stop=6 tail=6 warn=0 tlvs=[1:7:info1]
+        rewrite-mirroring asn=32,type=0 000100070001 | refused 12 at 0
+        stats - 00000001000700080000000000000100     | good stop=16 tail=16 warn=0 count=1 counters=[7:8:N:G256]
+        peerdown - 01                                | good stop=1 tail=1 warn=0 reason=1 data=some:
+        rewrite-peerdown - 04aa                      | written 1 04a5a5
+        common - 0300                                | refused 2 at 1
+        Common - 0300                                | bad line
+        rewrite-initiation - -                       | written 0 a5a5
+        common - -                                   | refused 2 at 0
+        common - 02                                  | refused 3 at 0
+        common - 030000000004                        | good stop=6 tail=6 warn=0 version=3 length=0 type=4
+        stats - 00000001000700040000000 3            | bad line
+        stats - 000000010007000400000003             | good stop=12 tail=12 warn=0 count=1 counters=[7:4:N:C3]
+        stats - 000000010009000b0001                 | refused 2 at 8
+        initiation - 0002000141                      | good stop=5 tail=5 warn=0 tlvs=[2:1:N:41]
+        termination - 0002000541                     | refused 4 at 0
+        termination - 0000000541                     | good stop=4 tail=0 warn=0 tlvs=[]
+        mirroring asn=16,type=3 0002000000           | refused 5 at 0
+        mirroring asn=16,type=3 0000001200           | refused 6 at 2
+        mirroring asn=16,type=3 0000001300           | refused 2 at 4
+        mirroring asn=16,type=3 0001000200           | refused 2 at 4
+        mirroring asn=16,type=3 000100020002         | refused 4 at 4
+        peerdown - 04aa                              | good stop=1 tail=1 warn=0 reason=4 data=none
+    """
+
+    def test_lines(self):
+        for line in self.LINES.strip().splitlines():
+            question, expected = (side.strip() for side in line.split("|"))
+            self.assertEqual(replay.answer(question.encode()), expected, question)
+
+    def test_lister(self):
+        stream = bytes.fromhex("030000000b040002000141" + "030000000607")
+        self.assertEqual(listing.listing(stream), ["place type length answer", "0 4 11 0", "11 - - 4", "end 11"])
+
+
+class Rules(unittest.TestCase):
+    """What the rules say without an example; expected answers are worked out by hand from them."""
+
+    def test_numbers_in_order_of_the_bytes(self):
+        self.assertEqual(ask("split", "03 00000005 07"), "refused 4 at 5")
+        self.assertEqual(ask("split", "03 00100001 04"), "refused 1 at 1")
+        self.assertEqual(ask("split", "03 00100000 04"), "refused 2 at 6")
+        self.assertEqual(ask("split", "03 00000007 04"), "refused 2 at 6")
+        self.assertEqual(ask("split", "03 00000006 04 ff"), "good stop=6 tail=6 warn=0 length=6 type=4")
+
+    def test_per_peer_header_cut(self):
+        starts = [0, 1, 2, 10, 26, 30, 34, 38]
+        for length in range(42):
+            field = max(start for start in starts if start <= length)
+            self.assertEqual(ask("perpeer", digits(HEADER)[: 2 * length]), f"refused 2 at {field}")
+        self.assertTrue(ask("perpeer", HEADER).startswith("good stop=42 tail=42 warn=0 "))
+        self.assertEqual(ask("perpeer", "04"), "refused 4 at 0")
+
+    def test_per_peer_header_fields(self):
+        self.assertEqual(
+            ask("perpeer", HEADER),
+            "good stop=42 tail=42 warn=0 type=0 flags=00 dist=0000000000000000 fam=4"
+            " addr=0000000000000000000000000a000001 as=65000 asbits=32 id=0a0a0a0a sec=1 usec=500000"
+            " ts=3ff8000000000000 time=some",
+        )
+        skipped = "01 20 0000000000000007 ffffffffffffffffffffffff 0a000001 fffffde8 0a0a0a0a 00000000 00000000"
+        self.assertEqual(
+            ask("perpeer", skipped),
+            "good stop=42 tail=42 warn=0 type=1 flags=20 dist=0000000000000007 fam=4"
+            " addr=0000000000000000000000000a000001 as=65000 asbits=16 id=0a0a0a0a sec=0 usec=0"
+            " ts=0000000000000000 time=none",
+        )
+        self.assertEqual(
+            ask("rewrite-perpeer", skipped),
+            "written 42 " + digits("01 20 0000000000000007 000000000000000000000000 0a000001 0000fde8 0a0a0a0a")
+            + "00" * 8 + "a5a5",
+        )
+
+    def test_loc_rib_header(self):
+        full = "03 ff 0000000000000001 20010db8000000000000000000000001 fffffde8 00000000 00000000 00000000"
+        self.assertEqual(
+            ask("perpeer", full),
+            "good stop=42 tail=42 warn=3 type=3 flags=ff dist=0000000000000001 fam=4 addr=" + "00" * 16
+            + " as=4294966760 asbits=32 id=00000000 sec=0 usec=0 ts=0000000000000000 time=none",
+        )
+        self.assertIn(" warn=0 ", ask("perpeer", LOC_RIB_HEADER))
+
+    def test_equal(self):
+        second = digits(HEADER).removesuffix("000000010007a120")
+        self.assertEqual(ask("equal", second + "00000000000f4240" + second + "0000000100000000"), "yes yes")
+        self.assertEqual(ask("equal", HEADER + second + "0000000100000000"), "no yes")
+        self.assertEqual(ask("equal", HEADER + LOC_RIB_HEADER), "no no")
+        self.assertEqual(ask("equal", HEADER + "04" + digits(HEADER)[2:]), "refused 4 at 42")
+        self.assertEqual(ask("equal", "04" + digits(HEADER)[2:] + "05" + digits(HEADER)[2:]), "refused 4 at 0")
+        self.assertEqual(ask("equal", HEADER), "bad line")
+
+    def test_tables(self):
+        tlv = "0000 0001 41"
+        for verb, args in (("initiation", "-"), ("termination", "-")):
+            self.assertTrue(ask(verb, tlv * 32, args).startswith("good stop=160 "))
+            self.assertEqual(ask(verb, tlv * 33, args), "refused 7 at 160")
+        self.assertTrue(ask("initiation", tlv * 32 + "0000 0002 41").startswith("good stop=164 tail=160 "))
+        self.assertEqual(ask("termination", tlv * 32 + "0001 0002 0005"), "refused 4 at 164")
+        information = "0001 0002 0001"
+        self.assertTrue(ask("mirroring", information * 32, "asn=32,type=0").startswith("good stop=192 "))
+        self.assertEqual(ask("mirroring", information * 33, "asn=32,type=0"), "refused 7 at 192")
+        self.assertEqual(ask("mirroring", information * 32 + "0001 0002 0002", "asn=32,type=0"), "refused 4 at 196")
+        self.assertTrue(ask("peerup", peer_up("00000000" * 32), "afi=4,asn=32,type=0").startswith("good stop=196 "))
+        self.assertEqual(ask("peerup", peer_up("00000000" * 33), "afi=4,asn=32,type=0"), "refused 7 at 196")
+        self.assertEqual(ask("peerup", peer_up("00000000" * 32 + "00000001"), "afi=4,asn=32,type=0"), "refused 2 at 200")
+        self.assertTrue(ask("stats", "00000040" + "00000000" * 64).startswith("good stop=260 "))
+        self.assertEqual(ask("stats", "00000041" + "00000000" * 65), "refused 7 at 260")
+        self.assertEqual(ask("stats", "00000041" + "00000000" * 64 + "00000001"), "refused 2 at 264")
+
+    def test_termination(self):
+        self.assertEqual(ask("termination", "0001 0000 0003 00"), "good stop=6 tail=6 warn=0 tlvs=[1:0:reason3]")
+        self.assertEqual(ask("rewrite-termination", "0001 0000 0003"), "refused 12 at 0")
+        self.assertEqual(ask("rewrite-termination", "0001 0002 0003"), "written 6 000100020003a5a5")
+        self.assertEqual(ask("termination", "0001 0003 0003"), "good stop=4 tail=0 warn=0 tlvs=[]")
+
+    def test_last_empty_tlv(self):
+        self.assertEqual(ask("initiation", "0002 0000"), "good stop=0 tail=0 warn=0 tlvs=[]")
+        self.assertEqual(ask("initiation", "0002 0000 00"), "good stop=4 tail=4 warn=0 tlvs=[2:0:N:]")
+        self.assertEqual(ask("rewrite-initiation", "0002 0000 00"), "refused 12 at 0")
+        self.assertEqual(ask("rewrite-termination", "0000 0000 00"), "refused 12 at 0")
+
+    def test_route_monitoring(self):
+        self.assertEqual(ask("monitoring", "00" * 18, "asn=32,type=0"), "refused 2 at 0")
+        self.assertEqual(ask("monitoring", "00" * 19, "asn=32,type=3"), "good stop=19 tail=19 warn=0 bgp=" + "00" * 19)
+        self.assertEqual(ask("monitoring", "00" * 20, "asn=16,type=3"), "good stop=20 tail=20 warn=4 bgp=" + "00" * 20)
+
+    def test_peer_up(self):
+        args = "afi=4,asn=32,type=0"
+        short = open_message(19, own=18)
+        self.assertEqual(ask("peerup", peer_up(sent=short), args), "refused 6 at 36")
+        self.assertEqual(ask("peerup", peer_up(received=short), args), "refused 6 at 65")
+        self.assertEqual(ask("peerup", peer_up(received=open_message(19, own=20)), args), "refused 2 at 49")
+        self.assertEqual(ask("peerup", peer_up()[:-2], args), "refused 2 at 49")
+        self.assertEqual(ask("peerup", peer_up("00030001"), args), "refused 2 at 72")
+        self.assertEqual(
+            ask("peerup", peer_up("00030000 0005000141 000000"), "afi=4,asn=32,type=3"),
+            "good stop=77 tail=77 warn=8 fam=4 local=0000000000000000000000000a000002 lport=179 rport=49153 sent="
+            + open_message().hex() + " received=" + open_message(19).hex() + " tlvs=[3:0:N:,5:1:U:41]",
+        )
+        self.assertIn(" warn=16 ", ask("peerup", peer_up(), "afi=4,asn=32,type=3"))
+        self.assertIn(" warn=0 ", ask("peerup", peer_up("000300ff" + "41" * 255), "afi=6,asn=32,type=3"))
+        self.assertIn(" warn=8 ", ask("peerup", peer_up("00030100" + "41" * 256), "afi=6,asn=32,type=3"))
+
+    def test_open_bmp(self):
+        self.assertEqual(
+            ask("openbmp", open_bmp() + "03"),
+            "good stop=81 tail=81 warn=0 hlen=80 mlen=6 sec=1 usec=1000000 ts=4000000000000000 admin=6162"
+            " fam=4 router=0a000001000000000000000000000000 group=63",
+        )
+        self.assertEqual(
+            ask("rewrite-openbmp", open_bmp(flags="bf")),
+            "written 81 " + digits("4f424d50 01 07 0050 00000006 80 0c 00000001 000f4240" + "00" * 16 + "0002 6162" + "00" * 16)
+            + digits("0a000001" + "00" * 12 + "0001 63 00000001 a5a5"),
+        )
+        self.assertIn("admin= fam=6 router=0a000001" + "33" * 12 + " group=", ask("openbmp", open_bmp(flags="c0", admin="0000", group="0000")))
+        for expected, header in (
+            ("refused 8 at 0", open_bmp(magic="4f424d51")),
+            ("refused 8 at 4", open_bmp(versions="0108")),
+            ("refused 8 at 4", open_bmp(versions="0207")),
+            ("refused 9 at 12", open_bmp(flags="7f", kind="0b")),
+            ("refused 9 at 13", open_bmp(kind="0d")),
+            ("refused 8 at 77", open_bmp(rows="00000002")),
+            ("refused 2 at 40", open_bmp(admin="ffff")),
+        ):
+            self.assertEqual(ask("openbmp", header), expected)
+        starts = [0, 4, 5, 6, 8, 12, 13, 14, 18, 22, 38, 40, 42, 58, 74, 76, 77]
+        for length in range(81):
+            field = max(start for start in starts if start <= length)
+            self.assertEqual(ask("openbmp", open_bmp()[: 2 * length]), f"refused 2 at {field}")
+
+    def test_names(self):
+        named = [*range(24), *range(26, 44)]
+        for stat_type in [*range(50), 65535]:
+            mark = "N" if stat_type in named else "O"
+            self.assertIn(f"[{stat_type}:0:{mark}:R]", ask("stats", f"00000001 {stat_type:04x} 0000"))
+
+    def test_slice_limit(self):
+        body = bytes(bmp.MAX_BYTES + 1)
+        readers = [entry[1] for entry in replay.READERS.values()] + [bmp.split]
+        for reader in readers:
+            arguments = {"read_route_monitoring": (32, 0), "read_peer_up_notification": (4, 0)}.get(reader.__name__, ())
+            with self.assertRaises(bmp.Refused) as refusal:
+                reader(body, *arguments)
+            self.assertEqual((refusal.exception.number, refusal.exception.place), (1, 0))
+        self.assertEqual(bmp.read_route_monitoring(body[1:], 32, 0).stop, 1_048_576)
+
+    def test_bad_lines(self):
+        lines = ["common", "common -", "common - ", " common - 03", "common  - 03", "common -  03", "common - 03 ", "common - 3",
+                 "common - 0A", "common - 03\r", "\r", " ", "common asn=32,type=0 03", "mirroring - 03", "mirroring asn=32 03",
+                 "mirroring type=0,asn=32 03", "mirroring asn=32,type=4 03", "mirroring asn=8,type=0 03", "equal - 03", "rewrite-split - 03",
+                 "rewrite-equal - 03", "peerup asn=32,type=0 03", "common - --",
+                 "monitoring asn=32,type=4 03", "peerup afi=4,asn=32,type=4 03", "common\t-\t03", "common - 03\x00", "rewrite- - 03"]
+        for line in lines:
+            self.assertEqual(replay.answer(line.encode()), "bad line", line)
+        self.assertEqual(replay.answer(b"split - " + b"03" * 65_536), "refused 1 at 1")
+        self.assertEqual(replay.answer(b"split - " + b"03" * 65_537), "bad line")
+
+    def test_timestamps(self):
+        for seconds in (0, 1, 1_794_707_493, 2**32 - 1):
+            for microseconds in (0, 1, 3, 500_000, 679_472, 999_999, 1_000_000, 1_003_691, 2**32 - 1):
+                quotient = float(Fraction(microseconds, 1_000_000))
+                exact = float(Fraction(seconds) + Fraction(quotient))
+                self.assertEqual(bmp.timestamp_of(seconds, microseconds).hex(), exact.hex())
+
+    def test_lister(self):
+        message = bytes.fromhex("030000000604")
+        full = message * 10_922 + bytes.fromhex("03000000")
+        self.assertEqual(len(full), 65_536)
+        self.assertEqual(listing.listing(full)[-3:], ["65526 4 6 0", "65532 - - 2", "end 65532"])
+        self.assertEqual(listing.listing(full + b"\0"), ["place type length answer", "0 - - 1", "end 0"])
+        self.assertEqual(listing.listing(b""), ["place type length answer", "end 0"])
+        peer = bytes.fromhex(digits(HEADER))
+        down = bytes.fromhex("0300000031 02") + peer + b"\7"
+        short = bytes.fromhex("030000002f 02") + peer[:41]
+        self.assertEqual(
+            listing.listing(down + short),
+            ["place type length answer", "0 2 49 4", "49 2 47 2", "end 96"],
+        )
+
+    def test_lister_bodies(self):
+        """For each message type a body that is good, and one whose number is that body's own."""
+        peer = bytes.fromhex(digits(HEADER))
+        bodies = [
+            (0, peer + bytes(19), peer + bytes(18), 2),
+            (1, peer + bytes(4), peer + bytes([0, 0, 0, 65]) + bytes(260), 7),
+            (2, peer + b"\4", peer + b"\7", 4),
+            (3, peer + bytes.fromhex(peer_up()), peer + bytes.fromhex(peer_up(sent=open_message(19, own=18))), 6),
+            (4, bytes.fromhex("0002000541"), bytes.fromhex("0002000141") * 33, 7),
+            (5, bytes.fromhex("000100020004"), bytes.fromhex("000100020005"), 4),
+            (6, peer + bytes.fromhex("000100070001"), peer + bytes.fromhex("0002000000"), 5),
+        ]
+        for kind, good, bad, number in bodies:
+            for body, expected in ((good, 0), (bad, number)):
+                length = 6 + len(body)
+                stream = b"\3" + length.to_bytes(4, "big") + bytes([kind]) + body
+                self.assertEqual(listing.listing(stream)[1:], [f"0 {kind} {length} {expected}", f"end {length}"])
+
+    def test_strip_timestamp(self):
+        header = bmp.read_per_peer_header(bytes.fromhex(digits(HEADER))).record
+        stripped = bmp.strip_timestamp(header)
+        self.assertEqual((stripped.timestamp, stripped.seconds, stripped.microseconds), (0.0, 0, 0))
+        self.assertEqual(stripped[:6], header[:6])
+
+
+class Programs(unittest.TestCase):
+    """The programs as they are run."""
+
+    STREAM = bytes.fromhex("030000000b040002000141" + "030000000607")
+    LISTING = b"place type length answer\n0 4 11 0\n11 - - 4\nend 11\n"
+
+    def run_program(self, name, *arguments, given=b""):
+        program = os.path.join(os.path.dirname(os.path.abspath(__file__)), name)
+        return subprocess.run([sys.executable, "-B", program, *arguments], input=given, capture_output=True, check=True).stdout
+
+    def test_replay(self):
+        given = b"common - 0300\n\nCommon - 0300\ncommon - 0300\r\n\n\npeerdown - 01"
+        expected = b"refused 2 at 1\nbad line\nbad line\ngood stop=1 tail=1 warn=0 reason=1 data=some:\n"
+        self.assertEqual(self.run_program("replay.py", given=given), expected)
+        self.assertEqual(self.run_program("replay.py"), b"")
+
+    def test_listing(self):
+        self.assertEqual(self.run_program("listing.py", given=self.STREAM), self.LISTING)
+        with tempfile.TemporaryDirectory() as folder:
+            names = [os.path.join(folder, name) for name in ("one.bmp", "none.bmp")]
+            for name, stream in zip(names, (self.STREAM, b"")):
+                with open(name, "wb") as file:
+                    file.write(stream)
+            expected = names[0].encode() + b"\n" + self.LISTING + names[1].encode() + b"\nplace type length answer\nend 0\n"
+            self.assertEqual(self.run_program("listing.py", *names), expected)
+
+
+class NotWritable(unittest.TestCase):
+    """The rules' list of what is not writable, and the order 12, 1, 11."""
+
+    BUFFER = bytes(range(20))
+
+    def number(self, writer, record, room=100, buffer=BUFFER):
+        output = bytearray(b"\xa5" * room)
+        try:
+            writer(record, buffer, output)
+        except bmp.Refused as refusal:
+            self.assertEqual((refusal.place, bytes(output)), (0, b"\xa5" * room))
+            return refusal.number
+        return 0
+
+    def test_headers(self):
+        common = bmp.CommonHeader(3, 6, 4)
+        self.assertEqual(self.number(bmp.write_common_header, common), 0)
+        self.assertEqual(self.number(bmp.write_common_header, common, room=5), 11)
+        self.assertEqual(self.number(bmp.write_common_header, common._replace(version=4), room=5), 12)
+        self.assertEqual(self.number(bmp.write_common_header, common._replace(msg_type=7)), 12)
+        peer = bmp.read_per_peer_header(bytes.fromhex(digits(HEADER))).record
+        address = peer.peer_ip
+        self.assertEqual(self.number(bmp.write_per_peer_header, peer, room=42), 0)
+        for change in (
+            {"timestamp": 1.25},
+            {"timestamp": -0.0, "seconds": 0, "microseconds": 0},
+            {"peer_ip": address._replace(afi=6)},
+            {"peer_flags": 0x80},
+            {"peer_flags": 0x20, "peer_asn": 65_536},
+            {"peer_type": 3},
+            {"peer_type": 4},
+            {"peer_ip": bmp.IpAddr(b"\1" + bytes(15), 4)},
+            {"peer_ip": bmp.IpAddr(bytes(11) + b"\1" + bytes(4), 4)},
+        ):
+            self.assertEqual(self.number(bmp.write_per_peer_header, peer._replace(**change)), 12, change)
+        self.assertEqual(self.number(bmp.write_per_peer_header, peer._replace(peer_flags=0x20, peer_asn=65_535)), 0)
+
+    def test_statistics(self):
+        good, bad = [], []
+        for data, length in ((bmp.Counter(1), 4), (bmp.Gauge(1), 8), (bmp.AfiSafiGauge(1, 1, 1), 11), (bmp.Raw(bmp.View(0, 2)), 2)):
+            good.append(bmp.StatCounter(0, length, data))
+            bad.append(bmp.StatCounter(0, length + 1, data))
+        bad += [bmp.StatCounter(0, n, bmp.Raw(bmp.View(0, n))) for n in (4, 8, 11, 21)]
+        bad.append(bmp.StatCounter(0, 0, bmp.Raw(bmp.View(21, 0))))
+        for expected, counters in ((0, good), (12, bad)):
+            for counter in counters:
+                self.assertEqual(self.number(bmp.write_stats_report, bmp.StatsReport(1, [counter])), expected, counter)
+        self.assertEqual(self.number(bmp.write_stats_report, bmp.StatsReport(2, good[:1])), 12)
+        for count, expected in ((64, 0), (65, 12)):
+            self.assertEqual(self.number(bmp.write_stats_report, bmp.StatsReport(count, good[:1] * count), room=600), expected)
+
+    def test_too_long(self):
+        buffer = bytes(65_535)
+        raw = bmp.StatCounter(0, 65_535, bmp.Raw(bmp.View(0, 65_535)))
+        for count, expected in ((15, 11), (16, 1)):
+            report = bmp.StatsReport(count, [raw] * count)
+            self.assertEqual(self.number(bmp.write_stats_report, report, room=0, buffer=buffer), expected)
+        self.assertEqual(self.number(bmp.write_stats_report, bmp.StatsReport(17, [raw] * 16), room=0, buffer=buffer), 12)
+        for length, expected in ((1_048_576, 0), (1_048_577, 1)):
+            record = bmp.RouteMonitoring(bmp.View(0, length))
+            self.assertEqual(self.number(bmp.write_route_monitoring, record, room=length, buffer=bytes(length)), expected)
+
+    def test_tlvs(self):
+        def initiation(*views):
+            return bmp.InitiationMessage([bmp.InformationTlv(0, length, view) for length, view in views])
+
+        self.assertEqual(self.number(bmp.write_initiation_message, initiation((0, bmp.View(0, 0)), (1, bmp.View(19, 1)))), 0)
+        for views in ([(1, bmp.View(20, 1))], [(2, bmp.View(0, 1))], [(0, bmp.View(0, 0))], [(0, bmp.View(21, 0)), (1, bmp.View(0, 1))]):
+            self.assertEqual(self.number(bmp.write_initiation_message, initiation(*views)), 12)
+        one = (1, bmp.View(0, 1))
+        self.assertEqual(self.number(bmp.write_initiation_message, initiation(*[one] * 32), room=160), 0)
+        self.assertEqual(self.number(bmp.write_initiation_message, initiation(*[one] * 33), room=999), 12)
+
+        def termination(length, value):
+            return self.number(bmp.write_termination_message, bmp.TerminationMessage([bmp.TerminationTlv(length, value)]))
+
+        self.assertEqual(termination(2, bmp.Reason(4)), 0)
+        self.assertEqual(termination(2, bmp.Reason(5)), 12)
+        self.assertEqual(termination(1, bmp.Reason(4)), 12)
+        self.assertEqual(termination(0, bmp.String(bmp.View(0, 0))), 12)
+        self.assertEqual(termination(2, bmp.String(bmp.View(0, 1))), 12)
+        self.assertEqual(termination(2, bmp.String(bmp.View(19, 2))), 12)
+
+        def mirroring(length, value):
+            return self.number(bmp.write_route_mirroring, bmp.RouteMirroring([bmp.RouteMirroringTlv(length, value)]))
+
+        self.assertEqual(mirroring(19, bmp.BgpMessage(bmp.View(0, 19))), 0)
+        self.assertEqual(mirroring(18, bmp.BgpMessage(bmp.View(0, 18))), 12)
+        self.assertEqual(mirroring(20, bmp.BgpMessage(bmp.View(0, 19))), 12)
+        self.assertEqual(mirroring(20, bmp.BgpMessage(bmp.View(1, 20))), 12)
+        self.assertEqual(mirroring(2, bmp.Information(1)), 0)
+        self.assertEqual(mirroring(2, bmp.Information(2)), 12)
+        self.assertEqual(mirroring(7, bmp.Information(1)), 12)
+        for count, expected in ((32, 0), (33, 12)):
+            record = bmp.TerminationMessage([bmp.TerminationTlv(2, bmp.Reason(0))] * count)
+            self.assertEqual(self.number(bmp.write_termination_message, record, room=200), expected)
+            record = bmp.RouteMirroring([bmp.RouteMirroringTlv(2, bmp.Information(0))] * count)
+            self.assertEqual(self.number(bmp.write_route_mirroring, record, room=200), expected)
+
+    def test_other_bodies(self):
+        for length, expected in ((18, 12), (19, 0), (20, 0), (21, 12)):
+            record = bmp.RouteMonitoring(bmp.View(0, length))
+            self.assertEqual(self.number(bmp.write_route_monitoring, record), expected)
+        some, none = bmp.View(3, 4), bmp.View(0, 0)
+        writable = [(0, None), (0, some), (4, None), (5, None)] + [(r, v) for r in (1, 2, 3, 6) for v in (some, none)]
+        for reason in range(8):
+            for data in (None, some, none, bmp.View(0, 21)):
+                expected = 0 if (reason, data) in writable else 12
+                record = bmp.PeerDownNotification(reason, data)
+                self.assertEqual(self.number(bmp.write_peer_down_notification, record), expected, record)
+
+    def test_peer_up(self):
+        buffer = bytes.fromhex(peer_up("0000000141"))
+        record = bmp.read_peer_up_notification(buffer, 4, 0).record
+
+        def number(**change):
+            return self.number(bmp.write_peer_up_notification, record._replace(**change), buffer=buffer)
+
+        self.assertEqual(number(), 0)
+        self.assertEqual(number(local_addr=bmp.IpAddr(b"\1" * 16, 6)), 0)
+        self.assertEqual(number(local_addr=bmp.IpAddr(b"\1" * 16, 4)), 12)
+        self.assertEqual(number(sent_open=bmp.View(20, 28)), 12)
+        self.assertEqual(number(received_open=bmp.View(49, 18)), 12)
+        self.assertEqual(number(received_open=bmp.View(len(buffer), 19)), 12)
+        short = open_message(19, own=18)
+        for length in (18, 19):
+            view = record._replace(sent_open=bmp.View(0, length), received_open=bmp.View(0, length), tlvs=[])
+            self.assertEqual(self.number(bmp.write_peer_up_notification, view, buffer=short), 12)
+        self.assertEqual(number(tlvs=[bmp.InformationTlv(0, 0, bmp.View(0, 0))]), 0)
+        self.assertEqual(number(tlvs=[bmp.InformationTlv(0, 1, bmp.View(0, 0))]), 12)
+
+    def test_open_bmp(self):
+        buffer = bytes.fromhex(open_bmp())
+        record = bmp.read_openbmp_header(buffer).record
+
+        def number(**change):
+            return self.number(bmp.write_openbmp_header, record._replace(**change), buffer=buffer)
+
+        self.assertEqual(number(), 0)
+        self.assertEqual(number(header_len=0, msg_len=0), 0)
+        for change in (
+            {"major_version": 2},
+            {"minor_version": 6},
+            {"object_type": 13},
+            {"timestamp": 1.0},
+            {"admin_id": bmp.View(80, 2)},
+            {"router_group": bmp.View(82, 0)},
+            {"router_ip": bmp.IpAddr(bytes(12) + b"\1\1\1\1", 4)},
+        ):
+            self.assertEqual(number(**change), 12, change)
+        self.assertEqual(number(router_ip=bmp.IpAddr(bytes(4) + b"\1" + bytes(11), 4)), 12)
+        for length, expected in ((65_535, 0), (65_536, 12)):
+            long = record._replace(admin_id=bmp.View(0, length), router_group=bmp.View(0, 0))
+            self.assertEqual(self.number(bmp.write_openbmp_header, long, 70_000, bytes(65_536)), expected)
+
+
+MESSAGE_NAMES = ["RouteMonitoring", "StatsReport", "PeerDown", "PeerUp", "Initiation", "Termination", "RouteMirroring"]
+PEER_NAMES = ["Global", "RD", "Local", "LocRIB"]
+BGP_NAMES = ["", "OPEN", "UPDATE", "NOTIFICATION", "KEEPALIVE"]
+
+
+def shown_address(address):
+    if address.afi == 6:
+        return str(ipaddress.IPv6Address(address.octets))
+    return str(ipaddress.IPv4Address(address.octets[12:]))
+
+
+class Message:
+    """One message of a recording, read whole."""
+
+    def __init__(self, place, header, message):
+        self.place, self.kind, self.length = place, header.msg_type, header.msg_len
+        self.name = MESSAGE_NAMES[self.kind]
+        self.peer = None
+        self.data = message[6:]
+        if self.kind not in listing.WITHOUT_PEER:
+            self.peer = bmp.read_per_peer_header(self.data).record
+            self.data = self.data[42:]
+        self.body = listing.read_body(self.kind, self.data, self.peer).record
+
+    def shown(self, view):
+        return bmp.part(self.data, view)
+
+    def bgp_id(self):
+        return ipaddress.IPv4Address(self.peer.peer_bgp_id)
+
+    def peer_line(self):
+        peer = self.peer
+        return (
+            f"type {peer.peer_type} ({PEER_NAMES[peer.peer_type]}) rd {peer.peer_distinguisher:016x}"
+            f" addr {shown_address(peer.peer_ip)} AS {peer.peer_asn} id {self.bgp_id()}"
+        )
+
+    def peer_label(self):
+        peer = self.peer
+        name = PEER_NAMES[peer.peer_type]
+        return f"{name} rd={peer.peer_distinguisher:016x} {shown_address(peer.peer_ip)} AS{peer.peer_asn}"
+
+
+def read_all(stream):
+    messages, place = [], 0
+    while place < len(stream):
+        header = bmp.split(stream[place:]).record
+        messages.append(Message(place, header, stream[place : place + header.msg_len]))
+        place += header.msg_len
+    return messages
+
+
+def count(names):
+    counts = {}
+    for name in names:
+        counts[name] = counts.get(name, 0) + 1
+    return counts
+
+
+def tlv_text(tlv, message):
+    return f"type {tlv.info_type} len {tlv.info_len} '{message.shown(tlv.info).decode()}'"
+
+
+def open_text(text):
+    """my_as, hold time and BGP ID of an OPEN, as a summary gives them."""
+    own = re.match(r"OPEN\(my_as=(\d+), as4=\w+, hold=(\d+), id=([\d.]+),", text)
+    return int(own[1]), int(own[2]), own[3]
+
+
+def open_fields(message):
+    return (
+        int.from_bytes(message[20:22], "big"),
+        int.from_bytes(message[22:24], "big"),
+        str(ipaddress.IPv4Address(message[24:28])),
+    )
+
+
+def up_text(message):
+    up, peer = message.body, message.peer
+    tlvs = ", ".join(tlv_text(tlv, message) for tlv in up.tlvs)
+    return (
+        f"[{message.place}] {message.peer_label()} id={message.bgp_id()} flags=0x{peer.peer_flags:02x}"
+        f" local={shown_address(up.local_addr)} ports={up.local_port}/{up.remote_port}",
+        f"tlvs=[{tlvs}] ts={peer.seconds}.{peer.microseconds:06d}",
+    )
+
+
+def down_text(message):
+    reason, view = message.body
+    data = b"" if view is None else message.shown(view)
+    text = f"{message.peer_label()} flags=0x{message.peer.peer_flags:02x} reason={reason} "
+    if reason in (1, 3):
+        return f"{text}NOTIFICATION {data[19]}/{data[20]} data {data[21:].hex()}"
+    if reason == 2:
+        return f"{text}fsm-event {int.from_bytes(data, 'big')} (len {len(data)})"
+    if reason == 6:
+        return f"{text}TLVs {int.from_bytes(data[:2], 'big')}='{data[4:].decode()}'"
+    return text
+
+
+class Recordings(unittest.TestCase):
+    """What another program saw in each recording."""
+
+    @classmethod
+    def setUpClass(cls):
+        cls.recordings = []
+        for path in sorted(glob.glob(os.path.join(FOLDER, "*.bmp"))):
+            with open(path, "rb") as file:
+                stream = file.read()
+            with open(path.removesuffix(".bmp") + ".summary.txt", encoding="utf-8") as file:
+                lines = [line.strip() for line in file]
+            cls.recordings.append((os.path.basename(path), stream, read_all(stream), lines))
+        assert cls.recordings, "no recordings in the folder"
+
+    def each(self, check):
+        for name, *recording in self.recordings:
+            with self.subTest(name):
+                check(*recording)
+
+    def said(self, lines, word):
+        return [line.removeprefix(word).strip() for line in lines if line.startswith(word)]
+
+    def test_counts(self):
+        def check(stream, messages, lines):
+            size, number = re.search(r": (\d+) bytes, (\d+) messages,", lines[0]).groups()
+            self.assertEqual((len(stream), len(messages)), (int(size), int(number)))
+            types, order, longest = self.said(lines, "types:")[0].split(" | ")
+            self.assertEqual(count(m.name for m in messages), {k: int(v) for k, v in (t.split() for t in types.split(", "))})
+            kinds = [m.kind for m in messages]
+            self.assertEqual(order, f"first {kinds[:6]} last {kinds[-1]}")
+            self.assertEqual(longest, f"longest {max(m.length for m in messages)}")
+
+        self.each(check)
+
+    def test_listing(self):
+        def check(stream, messages, lines):
+            expected = int(re.search(r" (\d+) messages,", lines[0])[1])
+            got = listing.listing(stream)
+            if len(stream) > 65_536:
+                self.assertEqual(got, ["place type length answer", "0 - - 1", "end 0"])
+                return
+            self.assertEqual(len(got), expected + 2)
+            self.assertTrue(all(line.endswith(" 0") for line in got[1:-1]))
+            self.assertEqual(got[-1], f"end {len(stream)}")
+
+        self.each(check)
+
+    def test_initiations(self):
+        def check(stream, messages, lines):
+            tlvs = [tlv_text(t, m) for m in messages if m.name == "Initiation" for t in m.body.tlvs]
+            self.assertEqual(tlvs, self.said(lines, "init:"))
+
+        self.each(check)
+
+    def test_peers(self):
+        def check(stream, messages, lines):
+            peers = {}
+            for message in messages:
+                if message.peer:
+                    peers.setdefault(message.peer_line(), []).append(message)
+            got = {
+                (line, str(count(m.name for m in of)), str(count(f"{m.name}:0x{m.peer.peer_flags:02x}" for m in of)))
+                for line, of in peers.items()
+            }
+            expected = [line.split(" | ") for line in self.said(lines, "peer:")]
+            self.assertEqual(got, {(line, kinds, flags.removeprefix("flags ")) for line, kinds, flags in expected})
+
+        self.each(check)
+
+    def test_ups(self):
+        def check(stream, messages, lines):
+            ups = [m for m in messages if m.name == "PeerUp"]
+            expected = self.said(lines, "up:")
+            self.assertEqual(len(ups), len(expected))
+            for message, line in zip(ups, expected):
+                start, sent, received, end = re.fullmatch(r"(.*) sent=(.*) rcvd=(.*) (tlvs=.*)", line).groups()
+                self.assertEqual(up_text(message), (start, end))
+                self.assertEqual(open_fields(message.shown(message.body.sent_open)), open_text(sent))
+                self.assertEqual(open_fields(message.shown(message.body.received_open)), open_text(received))
+
+        self.each(check)
+
+    def test_downs(self):
+        def check(stream, messages, lines):
+            places = {}
+            for message in messages:
+                if message.name == "PeerDown":
+                    places.setdefault(down_text(message), []).append(str(message.place))
+            got = [f"{text} x{len(at)} at {','.join(at)}" for text, at in places.items()]
+            self.assertEqual(sorted(got), sorted(self.said(lines, "down:")))
+
+        self.each(check)
+
+    def test_statistics(self):
+        def check(stream, messages, lines):
+            by_type, by_peer = {}, {}
+            for message in messages:
+                if message.name != "StatsReport":
+                    continue
+                for counter in message.body.counters:
+                    value = counter.stat_data.value
+                    by_type.setdefault((counter.stat_type, counter.stat_len), []).append(value)
+                    by_peer.setdefault(message.peer_label(), {}).setdefault(counter.stat_type, []).append(value)
+            got = [f"type {t} len {n} x{len(v)} first {v[0]} last {v[-1]}" for (t, n), v in sorted(by_type.items())]
+            self.assertEqual(got, self.said(lines, "stat:"))
+            got = [
+                f"{peer}: " + ", ".join(f"{t}: {v[0]}..{v[-1]} (max {max(v)}, n {len(v)})" for t, v in sorted(types.items()))
+                for peer, types in by_peer.items()
+            ]
+            self.assertEqual(sorted(got), sorted(self.said(lines, "stats of")))
+
+        self.each(check)
+
+    def test_mirrored(self):
+        def check(stream, messages, lines):
+            bgp = [
+                "BGP " + BGP_NAMES[m.shown(tlv.value.view)[18]]
+                for m in messages
+                if m.name == "RouteMirroring"
+                for tlv in m.body.tlvs
+            ]
+            expected = [ast.literal_eval(text) for text in self.said(lines, "mirror:")]
+            self.assertEqual([count(bgp)] if bgp else [], expected)
+
+        self.each(check)
+
+    def test_rewriting(self):
+        """The recordings have zeros where readers skip bytes, and no tails: what is written is what was read."""
+        writers = {
+            bmp.ROUTE_MONITORING: bmp.write_route_monitoring,
+            bmp.STATISTICS_REPORT: bmp.write_stats_report,
+            bmp.PEER_DOWN_NOTIFICATION: bmp.write_peer_down_notification,
+            bmp.PEER_UP_NOTIFICATION: bmp.write_peer_up_notification,
+            bmp.INITIATION_MESSAGE: bmp.write_initiation_message,
+            bmp.ROUTE_MIRRORING: bmp.write_route_mirroring,
+        }
+
+        def check(stream, messages, lines):
+            for message in messages:
+                output = bytearray(len(message.data))
+                length = writers[message.kind](message.body, message.data, output)
+                self.assertEqual((length, bytes(output)), (len(message.data), message.data))
+
+        self.each(check)
+
+
+if FOLDER is None:
+    Recordings = unittest.skip("no folder of recordings given")(Recordings)
+
+if __name__ == "__main__":
+    unittest.main(argv=sys.argv[:1])
