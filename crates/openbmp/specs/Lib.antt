@@ -1,0 +1,4 @@
+pub mod Grammar
+pub mod Shown
+pub mod Read
+pub mod Write
