@@ -54,35 +54,35 @@ partsOf s a g =
 abbrev pub cut : ℕ → ℕ → ℕ → OpenBmpAnswer
 cut n a g = refused (cutIn (widths a g) 0 n)
 
-abbrev pub afterRowCount : List ℕ → ℕ → ℕ → ℕ → OpenBmpAnswer
+unfoldable pub afterRowCount : List ℕ → ℕ → ℕ → ℕ → OpenBmpAnswer
 afterRowCount s a g rows = pick (eqb rows 1) (shown (partsOf s a g)) (refused (refusal Number.BadOpenBmp (74 + a + g)))
 
-abbrev pub afterGroupLength : List ℕ → ℕ → ℕ → OpenBmpAnswer
+unfoldable pub afterGroupLength : List ℕ → ℕ → ℕ → OpenBmpAnswer
 afterGroupLength s a g =
     pick (ltb (length s) (78 + a + g)) (cut (length s) a g) (afterRowCount s a g (numberAt 4 s (74 + a + g)))
 
-abbrev pub afterAdminLength : List ℕ → ℕ → OpenBmpAnswer
+unfoldable pub afterAdminLength : List ℕ → ℕ → OpenBmpAnswer
 afterAdminLength s a = pick (ltb (length s) (74 + a)) (cut (length s) a 0) (afterGroupLength s a (numberAt 2 s (72 + a)))
 
-abbrev pub afterType : List ℕ → ℕ → OpenBmpAnswer
+unfoldable pub afterType : List ℕ → ℕ → OpenBmpAnswer
 afterType s kind =
     pick (eqb kind 12)
     (pick (ltb (length s) 40) (cut (length s) 0 0) (afterAdminLength s (numberAt 2 s 38)))
     (refused (refusal Number.Unsupported 13))
 
-abbrev pub afterFlags : List ℕ → ℕ → OpenBmpAnswer
+unfoldable pub afterFlags : List ℕ → ℕ → OpenBmpAnswer
 afterFlags s flags =
     pick (flag 0x80 flags)
     (pick (ltb (length s) 14) (cut (length s) 0 0) (afterType s (numberAt 1 s 13)))
     (refused (refusal Number.Unsupported 12))
 
-abbrev pub afterVersions : List ℕ → ℕ → ℕ → OpenBmpAnswer
+unfoldable pub afterVersions : List ℕ → ℕ → ℕ → OpenBmpAnswer
 afterVersions s major minor =
     pick (eqb major 1 && eqb minor 7)
     (pick (ltb (length s) 13) (cut (length s) 0 0) (afterFlags s (numberAt 1 s 12)))
     (refused (refusal Number.BadOpenBmp 4))
 
-abbrev pub afterMagic : List ℕ → ℕ → OpenBmpAnswer
+unfoldable pub afterMagic : List ℕ → ℕ → OpenBmpAnswer
 afterMagic s magic =
     pick (eqb magic 0x4F424D50)
     (pick (ltb (length s) 6) (cut (length s) 0 0) (afterVersions s (numberAt 1 s 4) (numberAt 1 s 5)))

@@ -1,44 +1,36 @@
 use borrow.Author.Needs.{needs}
+use mathlib.Core.Path.{sym, _∙_}
+use borrow.Author.Tests.{eq-eqb, ne-eqb, lt-ltb, le-ltb}
+use Rattle.openbmp.specs.Read.{afterMagic}
 use Rattle.openbmp.proofs.after_magic.Statement.{statement}
 use Rattle.openbmp.proofs.after_magic.Tie as tie
-use Rattle.openbmp.proofs.after_magic.Reads as reads
-use Rattle.openbmp.proofs.after_magic.Lts as lts
-use Rattle.openbmp.proofs.after_versions.Reads as after-versions-reads
-use Rattle.openbmp.proofs.cut.Reads as cut-reads
-use Rattle.openbmp.proofs.refuse.Reads as refuse-reads
-use Rattle.wire.proofs.u8_at.Reads as u8-at-reads
 
--- src/lib.rt:73:9
 refuse-requires : tie.Need-refuse-requires
 refuse-requires c κs = search needs
 
--- src/lib.rt:73:9
 returns : tie.Need-returns
-returns c = ?
+unfolding afterMagic
+returns c = c .refuse .ensures ∙ sym (rw (ne-eqb _ 0x4F424D50 (c .before .if1 .taken)))
 
--- src/lib.rt:76:9
 cut-requires : tie.Need-cut-requires
 cut-requires c κs = search needs
 
--- src/lib.rt:76:9
 returns-2 : tie.Need-returns-2
-returns-2 c = ?
+unfolding afterMagic
+returns-2 c = c .cut .ensures ∙ sym (rw (eq-eqb _ 0x4F424D50 (c .before .before .if1 .left), lt-ltb _ _ (c .before .if2 .taken)))
 
--- src/lib.rt:78:23
 u8-at-requires : tie.Need-u8-at-requires
 u8-at-requires c κs = search needs
 
--- src/lib.rt:78:42
 u8-at-requires-2 : tie.Need-u8-at-requires-2
 u8-at-requires-2 c κs = search needs
 
--- src/lib.rt:78:5
 after-versions-requires : tie.Need-after-versions-requires
 after-versions-requires c κs = search needs
 
--- src/lib.rt:69:1
 returns-3 : tie.Need-returns-3
-returns-3 c = ?
+unfolding afterMagic
+returns-3 c = c .after-versions .ensures ∙ sym (rw (eq-eqb _ 0x4F424D50 (c .before .before .before .before .if1 .left), le-ltb _ _ (c .before .before .before .if2 .left), ← c .before .before .u8-at .ensures, ← c .before .u8-at2 .ensures))
 
 pub after-magic-spec : {M : Type 1} → statement M
 after-magic-spec =

@@ -1,34 +1,29 @@
 use borrow.Author.Needs.{needs}
+use mathlib.Core.Path.{sym, _∙_}
+use borrow.Author.Tests.{eq-eqb, ne-eqb}
+use Rattle.openbmp.specs.Read.{afterRowCount}
 use Rattle.openbmp.proofs.after_row_count.Statement.{statement}
 use Rattle.openbmp.proofs.after_row_count.Tie as tie
-use Rattle.openbmp.proofs.after_row_count.Reads as reads
-use Rattle.openbmp.proofs.after_row_count.Lts as lts
-use Rattle.openbmp.proofs.read_header.Reads as read-header-reads
-use Rattle.openbmp.proofs.refuse.Reads as refuse-reads
 
--- src/lib.rt:147:43
 add-refuse : tie.Need-add-refuse
 add-refuse c = search needs
 
--- src/lib.rt:147:43
 add-refuse-2 : tie.Need-add-refuse-2
 add-refuse-2 c = search needs
 
--- src/lib.rt:147:9
 refuse-requires : tie.Need-refuse-requires
 refuse-requires c κs = search needs
 
--- src/lib.rt:147:9
 returns : tie.Need-returns
-returns c = ?
+unfolding afterRowCount
+returns c = c .refuse .ensures ∙ sym (rw (ne-eqb _ 1 (c .before .if1 .taken)))
 
--- src/lib.rt:149:5
 read-header-requires : tie.Need-read-header-requires
 read-header-requires c κs = search needs
 
--- src/lib.rt:142:1
 returns-2 : tie.Need-returns-2
-returns-2 c = ?
+unfolding afterRowCount
+returns-2 c = c .read-header .ensures ∙ sym (rw (eq-eqb _ 1 (c .before .if1 .left)))
 
 pub after-row-count-spec : {M : Type 1} → statement M
 after-row-count-spec =

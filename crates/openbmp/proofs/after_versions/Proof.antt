@@ -1,48 +1,40 @@
 use borrow.Author.Needs.{needs}
+use mathlib.Core.Path.{sym, _∙_}
+use borrow.Author.Tests.{eq-eqb, ne-eqb, lt-ltb, le-ltb}
+use Rattle.openbmp.specs.Read.{afterVersions}
 use Rattle.openbmp.proofs.after_versions.Statement.{statement}
 use Rattle.openbmp.proofs.after_versions.Tie as tie
-use Rattle.openbmp.proofs.after_versions.Reads as reads
-use Rattle.openbmp.proofs.after_versions.Lts as lts
-use Rattle.openbmp.proofs.after_flags.Reads as after-flags-reads
-use Rattle.openbmp.proofs.cut.Reads as cut-reads
-use Rattle.openbmp.proofs.refuse.Reads as refuse-reads
-use Rattle.wire.proofs.u8_at.Reads as u8-at-reads
 
--- src/lib.rt:86:9
 refuse-requires : tie.Need-refuse-requires
 refuse-requires c κs = search needs
 
--- src/lib.rt:86:9
 returns : tie.Need-returns
-returns c = ?
+unfolding afterVersions
+returns c = c .refuse .ensures ∙ sym (rw (ne-eqb _ 1 (c .before .if1 .taken)))
 
--- src/lib.rt:89:9
 refuse-requires-2 : tie.Need-refuse-requires-2
 refuse-requires-2 c κs = search needs
 
--- src/lib.rt:89:9
 returns-2 : tie.Need-returns-2
-returns-2 c = ?
+unfolding afterVersions
+returns-2 c = c .refuse2 .ensures ∙ sym (rw (eq-eqb _ 1 (c .before .before .if1 .left), ne-eqb _ 7 (c .before .if2 .taken)))
 
--- src/lib.rt:92:9
 cut-requires : tie.Need-cut-requires
 cut-requires c κs = search needs
 
--- src/lib.rt:92:9
 returns-3 : tie.Need-returns-3
-returns-3 c = ?
+unfolding afterVersions
+returns-3 c = c .cut .ensures ∙ sym (rw (eq-eqb _ 1 (c .before .before .before .if1 .left), eq-eqb _ 7 (c .before .before .if2 .left), lt-ltb _ _ (c .before .if3 .taken)))
 
--- src/lib.rt:94:20
 u8-at-requires : tie.Need-u8-at-requires
 u8-at-requires c κs = search needs
 
--- src/lib.rt:94:5
 after-flags-requires : tie.Need-after-flags-requires
 after-flags-requires c κs = search needs
 
--- src/lib.rt:82:1
 returns-4 : tie.Need-returns-4
-returns-4 c = ?
+unfolding afterVersions
+returns-4 c = c .after-flags .ensures ∙ sym (rw (eq-eqb _ 1 (c .before .before .before .before .if1 .left), eq-eqb _ 7 (c .before .before .before .if2 .left), le-ltb _ _ (c .before .before .if3 .left), ← c .before .u8-at .ensures))
 
 pub after-versions-spec : {M : Type 1} → statement M
 after-versions-spec =

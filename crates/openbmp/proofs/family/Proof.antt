@@ -1,15 +1,13 @@
+use mathlib.Core.Path.{sym}
+use Rattle.peer.proofs.Told.{flag-set, flag-clear}
 use Rattle.openbmp.proofs.family.Statement.{statement}
 use Rattle.openbmp.proofs.family.Tie as tie
-use Rattle.openbmp.proofs.family.Reads as reads
-use Rattle.openbmp.proofs.family.Lts as lts
 
--- src/lib.rt:191:9
 returns : tie.Need-returns
-returns c = ?
+returns c = sym (rw (flag-set 6 (c .before .args .flags) (c .if1 .taken)))
 
--- src/lib.rt:187:1
 returns-2 : tie.Need-returns-2
-returns-2 c = ?
+returns-2 c = sym (rw (flag-clear 6 (c .before .args .flags) (c .if1 .left)))
 
 pub family-spec : {M : Type 1} → statement M
 family-spec = tie.close (tie.spec returns returns-2)

@@ -1,40 +1,32 @@
 use borrow.Author.Needs.{needs}
+use mathlib.Core.Path.{sym, _∙_}
+use borrow.Author.Tests.{lt-ltb, le-ltb}
+use denote.Ref.{now}
+use lib.ListN.{length}
+use Rattle.wire.specs.Number as Number
 use Rattle.openbmp.proofs.parse_openbmp_header.Statement.{statement}
 use Rattle.openbmp.proofs.parse_openbmp_header.Tie as tie
-use Rattle.openbmp.proofs.parse_openbmp_header.Reads as reads
-use Rattle.openbmp.proofs.parse_openbmp_header.Lts as lts
-use Rattle.openbmp.proofs.after_magic.Reads as after-magic-reads
-use Rattle.openbmp.proofs.cut.Reads as cut-reads
-use Rattle.openbmp.proofs.refuse.Reads as refuse-reads
-use Rattle.wire.proofs.u32_at.Reads as u32-at-reads
 
--- src/lib.rt:61:9
 refuse-requires : tie.Need-refuse-requires
 refuse-requires c κs = search needs
 
--- src/lib.rt:61:9
 returns : tie.Need-returns
-returns c = ?
+returns c = c .refuse .ensures ∙ sym (rw (lt-ltb Number.limit (length (now (c .before .before .before .args .s))) (c .before .if1 .taken)))
 
--- src/lib.rt:64:9
 cut-requires : tie.Need-cut-requires
 cut-requires c κs = search needs
 
--- src/lib.rt:64:9
 returns-2 : tie.Need-returns-2
-returns-2 c = ?
+returns-2 c = c .cut .ensures ∙ sym (rw (le-ltb Number.limit (length (now (c .before .before .before .before .args .s))) (c .before .before .if1 .left), lt-ltb (length (now (c .before .before .before .before .args .s))) 4 (c .before .if2 .taken)))
 
--- src/lib.rt:66:20
 u32-at-requires : tie.Need-u32-at-requires
 u32-at-requires c κs = search needs
 
--- src/lib.rt:66:5
 after-magic-requires : tie.Need-after-magic-requires
 after-magic-requires c κs = search needs
 
--- src/lib.rt:57:1
 returns-3 : tie.Need-returns-3
-returns-3 c = ?
+returns-3 c = c .after-magic .ensures ∙ sym (rw (le-ltb Number.limit (length (now (c .before .before .before .before .before .args .s))) (c .before .before .before .if1 .left), le-ltb (length (now (c .before .before .before .before .before .args .s))) 4 (c .before .before .if2 .left), ← c .before .u32-at .ensures))
 
 pub parse-openbmp-header-spec : {M : Type 1} → statement M
 parse-openbmp-header-spec =

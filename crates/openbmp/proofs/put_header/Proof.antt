@@ -1,31 +1,30 @@
 use borrow.Author.Needs.{needs}
+use denote.Ref.{now}
+use mathlib.Core.Path.{_≡_}
+use lib.ListN.{length}
+use Rattle.openbmp.proofs.Written.{put-header}
 use Rattle.openbmp.proofs.put_header.Statement.{statement}
 use Rattle.openbmp.proofs.put_header.Tie as tie
-use Rattle.openbmp.proofs.put_header.Reads as reads
-use Rattle.openbmp.proofs.put_header.Lts as lts
-use Rattle.openbmp.proofs.put_front.Reads as put-front-reads
-use Rattle.openbmp.proofs.put_rest.Reads as put-rest-reads
-use Rattle.openbmp.proofs.put_time.Reads as put-time-reads
 
--- src/lib.rt:352:5
+sixteen : (c : tie.Start) → length (c .args .header .«router_ip» .octets) ≡ 16
+sixteen c = search needs
+
 put-front-requires : tie.Need-put-front-requires
 put-front-requires c κs = search needs
 
--- src/lib.rt:353:5
 put-time-requires : tie.Need-put-time-requires
 put-time-requires c κs = search needs
 
--- src/lib.rt:354:5
 put-rest-requires : tie.Need-put-rest-requires
 put-rest-requires c κs = search needs
 
--- src/lib.rt:344:1
 same-length : tie.Need-same-length
 same-length c = search needs
 
--- src/lib.rt:344:1
 returns : tie.Need-returns
-returns c = ?
+returns c =
+    put-header (c .before .before .before .before .before .before .before .before .before .before .before .before .before .before .before .before .before .args .header) (now (c .before .before .before .before .before .before .before .before .before .before .before .before .before .before .before .before .before .args .admin)) (now (c .before .before .before .before .before .before .before .before .before .before .before .before .before .before .before .before .before .args .group)) (now (c .before .before .before .before .before .before .before .before .before .before .before .before .before .before .before .before .before .args .out)) _ _ _ (sixteen (c .before .before .before .before .before .before .before .before .before .before .before .before .before .before .before .before .before)) (c .before .before .before .before .before .before .before .before .before .before .before .before .before .before .before .before .before .pre .1 .1)
+    (c .before .before .before .before .before .before .before .before .before .before .put-front .ensures) (c .before .before .before .before .before .before .put-time .ensures) (c .before .before .put-rest .ensures)
 
 pub put-header-spec : {M : Type 1} → statement M
 put-header-spec =

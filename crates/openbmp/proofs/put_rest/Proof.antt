@@ -1,67 +1,57 @@
 use borrow.Author.Needs.{needs}
+use denote.Ref.{now}
+use mathlib.Core.Path.{_≡_}
+use lib.ListN.{length}
+use Rattle.openbmp.proofs.Written.{put-rest}
 use Rattle.openbmp.proofs.put_rest.Statement.{statement}
 use Rattle.openbmp.proofs.put_rest.Tie as tie
-use Rattle.openbmp.proofs.put_rest.Reads as reads
-use Rattle.openbmp.proofs.put_rest.Lts as lts
-use Rattle.openbmp.proofs.put_counted.Reads as put-counted-reads
-use Rattle.writing.proofs.put_bytes.Reads as put-bytes-reads
-use Rattle.writing.proofs.put_u32.Reads as put-u32-reads
 
--- src/lib.rt:400:5
+sixteen : (c : tie.Start) → length (c .args .t1) ≡ 16
+sixteen c = search needs
+
 put-counted-requires : tie.Need-put-counted-requires
 put-counted-requires c κs = search needs
 
--- src/lib.rt:401:29
 add-put-bytes : tie.Need-add-put-bytes
 add-put-bytes c = search needs
 
--- src/lib.rt:401:37
 slice-aggregate-put-bytes : tie.Need-slice-aggregate-put-bytes
 slice-aggregate-put-bytes c = search needs
 
--- src/lib.rt:401:5
 put-bytes-requires : tie.Need-put-bytes-requires
 put-bytes-requires c κs = search needs
 
--- src/lib.rt:402:29
 add-put-bytes-2 : tie.Need-add-put-bytes-2
 add-put-bytes-2 c = search needs
 
--- src/lib.rt:402:37
 slice-aggregate-put-bytes-2 : tie.Need-slice-aggregate-put-bytes-2
 slice-aggregate-put-bytes-2 c = search needs
 
--- src/lib.rt:402:5
 put-bytes-requires-2 : tie.Need-put-bytes-requires-2
 put-bytes-requires-2 c κs = search needs
 
--- src/lib.rt:403:24
 add-put-counted : tie.Need-add-put-counted
 add-put-counted c = search needs
 
--- src/lib.rt:403:5
 put-counted-requires-2 : tie.Need-put-counted-requires-2
 put-counted-requires-2 c κs = search needs
 
--- src/lib.rt:404:27
 add-put-u32 : tie.Need-add-put-u32
 add-put-u32 c = search needs
 
--- src/lib.rt:404:27
 add-put-u32-2 : tie.Need-add-put-u32-2
 add-put-u32-2 c = search needs
 
--- src/lib.rt:404:5
 put-u32-requires : tie.Need-put-u32-requires
 put-u32-requires c κs = search needs
 
--- src/lib.rt:391:1
 same-length : tie.Need-same-length
 same-length c = search needs
 
--- src/lib.rt:391:1
 returns : tie.Need-returns
-returns c = ?
+returns c =
+    put-rest (c .before .before .before .before .before .before .before .before .before .before .before .before .before .before .before .before .before .before .before .before .before .before .before .before .before .args .t1) (now (c .before .before .before .before .before .before .before .before .before .before .before .before .before .before .before .before .before .before .before .before .before .before .before .before .before .args .admin)) (now (c .before .before .before .before .before .before .before .before .before .before .before .before .before .before .before .before .before .before .before .before .before .before .before .before .before .args .group)) (now (c .before .before .before .before .before .before .before .before .before .before .before .before .before .before .before .before .before .before .before .before .before .before .before .before .before .args .out)) _ _ _ _ _ (sixteen (c .before .before .before .before .before .before .before .before .before .before .before .before .before .before .before .before .before .before .before .before .before .before .before .before .before)) (c .before .before .before .before .before .before .before .before .before .before .before .before .before .before .before .before .before .before .before .before .before .before .before .before .before .pre .1 .1)
+    (c .before .before .before .before .before .before .before .before .before .before .before .before .before .before .before .before .before .before .before .before .put-counted .ensures) (c .before .before .before .before .before .before .before .before .before .before .before .before .before .before .before .put-bytes .ensures) (c .before .before .before .before .before .before .before .before .before .before .put-bytes2 .ensures) (c .before .before .before .before .before .before .put-counted2 .ensures) (c .before .before .put-u32 .ensures)
 
 pub put-rest-spec : {M : Type 1} → statement M
 put-rest-spec =

@@ -1,67 +1,103 @@
 use borrow.Author.Needs.{needs}
+use native.Mathlib.Omega.{arith}
+use denote.Ref.{now}
+use borrow.Author.Tests.{not-true, not-false}
+use mathlib.Core.Path.{_≡_, sym, ap, _∙_, subst}
+use mathlib.Core.Bool.{Bool, true}
+use Prim.Native.Nat.{ℕ, _+_, _≤_}
+use lib.ListN.{length}
+use lib.Seq.{sets}
+use Rattle.layout.proofs.Octets.{array-bytes}
+use Rattle.writing.specs.Write.{writeAnswer}
+use Rattle.writing.proofs.Answers.{answered, left-alone, wrote, put-there, refused-so}
+use Rattle.openbmp.specs.Write.{bytesOf, writable, Typed}
+use Rattle.openbmp.proofs.Written.{Writable, writable-is, viewed-long, allBytes, bytes-are, length-written}
 use Rattle.openbmp.proofs.write_openbmp_header.Statement.{statement}
 use Rattle.openbmp.proofs.write_openbmp_header.Tie as tie
-use Rattle.openbmp.proofs.write_openbmp_header.Reads as reads
-use Rattle.openbmp.proofs.write_openbmp_header.Lts as lts
-use Rattle.openbmp.proofs.is_writable.Reads as is-writable-reads
-use Rattle.openbmp.proofs.put_header.Reads as put-header-reads
-use Rattle.wire.proofs.View.part.Reads as part-reads
-use Rattle.writing.proofs.write_answer.Reads as write-answer-reads
 
--- src/lib.rt:278:9
+-- The promises speak of every header that is handed to the writer.
+typed : (c : tie.Start) → Typed (c .args .header)
+typed c =
+    let address = c .good .0 .1 .1 .1 .1 .1 .1 .1 .1 .1 .1 .1 .0 .1 .1 .0 in
+    record {
+      header-len-fits = omega (arith, c .good);
+      msg-len-fits = omega (arith, c .good);
+      time-fits = search needs;
+      seconds-fit = omega (arith, c .good);
+      microseconds-fit = omega (arith, c .good);
+      octets = (search needs, array-bytes (c .args .header .«router_ip» .octets) (address .0) (address .1 .1));
+    }
+
+okay : (c : tie.Else1) → writable (c .before .before .before .before .args .header) (length (now (c .before .before .before .before .args .buffer))) ≡ true
+okay c = sym (c .before .is-writable .ensures) ∙ not-false (c .before .is-writable .result) (c .if1 .left)
+
+short : (c : tie.Else1) → Writable (c .before .before .before .before .args .header) (length (now (c .before .before .before .before .args .buffer)))
+short c = writable-is (c .before .before .before .before .args .header) (length (now (c .before .before .before .before .args .buffer))) (okay c)
+
+long : (c : tie.Else1) → (writable (c .before .before .before .before .args .header) (length (now (c .before .before .before .before .args .buffer)))) ≡ true → length (bytesOf (c .before .before .before .before .args .header) (now (c .before .before .before .before .args .buffer))) ≡ 78 + c .before .before .before .before .args .header .«admin_id» .length + c .before .before .before .before .args .header .«router_group» .length
+long c w = length-written (c .before .before .before .before .args .header) (now (c .before .before .before .before .args .buffer)) (typed (c .before .before .before .before) .octets .0) w
+
+asked : (c : tie.After-write-answer2) → c .write-answer2 .result ≡ writeAnswer (writable (c .before .before .before .before .before .before .before .before .before .args .header) (length (now (c .before .before .before .before .before .before .before .before .before .args .buffer)))) (78 + c .before .before .before .before .before .before .before .before .before .args .header .«admin_id» .length + c .before .before .before .before .before .before .before .before .before .args .header .«router_group» .length) (length (now (c .before .before .before .before .before .before .before .before .before .args .out)))
+asked c = c .write-answer2 .ensures ∙ ap (λ (b : Bool). writeAnswer b (78 + c .before .before .before .before .before .before .before .before .before .args .header .«admin_id» .length + c .before .before .before .before .before .before .before .before .before .args .header .«router_group» .length) (length (now (c .before .before .before .before .before .before .before .before .before .args .out)))) (sym (okay (c .before .before .before .before .before)))
+
 is-writable-requires : tie.Need-is-writable-requires
 is-writable-requires c κs = search needs
 
--- src/lib.rt:279:9
 write-answer-requires : tie.Need-write-answer-requires
 write-answer-requires c κs = search needs
 
--- src/lib.rt:279:9
 returns : tie.Need-returns
-returns c = ?
+returns c = refused-so _ (bytesOf (c .before .before .before .before .before .args .header) (now (c .before .before .before .before .before .args .buffer))) (now (c .before .before .before .before .before .args .out)) (sym (c .before .before .is-writable .ensures) ∙ not-true (c .before .before .is-writable .result) (c .before .if1 .taken)) _ (c .write-answer .ensures)
 
--- src/lib.rt:283:18
 add-length : tie.Need-add-length
-add-length c = ?
+add-length c = let w = short (c .before .before .before) in omega (arith, w .admin-short)
 
--- src/lib.rt:283:18
 add-length-2 : tie.Need-add-length-2
-add-length-2 c = ?
+add-length-2 c = let w = short (c .before .before .before .before) in omega (arith, w .admin-short, w .group-short)
 
--- src/lib.rt:284:9
 write-answer-requires-2 : tie.Need-write-answer-requires-2
 write-answer-requires-2 c κs = search needs
 
 enum-told : tie.Need-enum-told
 enum-told c = search needs
 
--- src/lib.rt:286:9
 enum-told-2 : tie.Need-enum-told-2
 enum-told-2 c = search needs
 
--- src/lib.rt:286:9
 returns-2 : tie.Need-returns-2
-returns-2 c = ?
+returns-2 c =
+    let s = bytesOf (c .before .before .before .before .before .before .before .before .before .before .before .args .header) (now (c .before .before .before .before .before .before .before .before .before .before .before .args .buffer)) in
+    (answered _ s (now (c .before .before .before .before .before .before .before .before .before .before .before .args .out)) _ (long (c .before .before .before .before .before .before .before)) _ (asked (c .before .before)), left-alone _ s (now (c .before .before .before .before .before .before .before .before .before .before .before .args .out)) _ (long (c .before .before .before .before .before .before .before)) _ (asked (c .before .before)) _ (c .enum-told2 .given .1))
 
--- src/lib.rt:288:24
 part-requires : tie.Need-part-requires
 part-requires c κs = search needs
 
--- src/lib.rt:288:47
 part-requires-2 : tie.Need-part-requires-2
 part-requires-2 c κs = search needs
 
--- src/lib.rt:288:5
 put-header-requires : tie.Need-put-header-requires
-put-header-requires c κs = ?
+put-header-requires c κs =
+    let h = c .before .before .before .before .before .before .before .before .before .before .before .before .before .before .args .header in
+    let b = now (c .before .before .before .before .before .before .before .before .before .before .before .before .before .before .args .buffer) in
+    let w = short (c .before .before .before .before .before .before .before .before .before .before) in
+    let admin = ap length (c .before .before .part .ensures) ∙ viewed-long b (h .«admin_id») (w .admin-inside) in
+    let group = ap length (c .before .part2 .ensures) ∙ viewed-long b (h .«router_group») (w .group-inside) in
+    let fits = wrote _ (bytesOf h b) (now (c .before .before .before .before .before .before .before .before .before .before .before .before .before .before .args .out)) _ (long (c .before .before .before .before .before .before .before .before .before .before)) _ (asked (c .before .before .before .before .before)) _ (c .before .before .before .enum-told .given .1) .fits in
+    let room : 78 + h .«admin_id» .length + h .«router_group» .length ≤ length (now (c .before .before .before .before .before .before .before .before .before .before .before .before .before .before .args .out)) = subst (λ (k : ℕ). k ≤ length (now (c .before .before .before .before .before .before .before .before .before .before .before .before .before .before .args .out))) (long (c .before .before .before .before .before .before .before .before .before .before) (okay (c .before .before .before .before .before .before .before .before .before .before))) fits in
+    (omega (arith, admin, w .admin-short), (omega (arith, group, w .group-short), omega (arith, admin, group, room)))
 
--- src/lib.rt:270:1
 same-length : tie.Need-same-length
 same-length c = search needs
 
--- src/lib.rt:270:1
 returns-3 : tie.Need-returns-3
-returns-3 c = ?
+returns-3 c =
+    let h = c .before .before .before .before .before .before .before .before .before .before .before .before .before .before .before .before .before .args .header in
+    let b = now (c .before .before .before .before .before .before .before .before .before .before .before .before .before .before .before .before .before .args .buffer) in
+    let s = bytesOf h b in
+    let admin = c .before .before .before .before .before .part .ensures in
+    let group = c .before .before .before .before .part2 .ensures in
+    let put = c .before .before .put-header .ensures ∙ ap (sets (now (c .before .before .before .before .before .before .before .before .before .before .before .before .before .before .before .before .before .args .out)) 0) ((λ i. allBytes h (admin i) (group i)) ∙ sym (bytes-are h b (okay (c .before .before .before .before .before .before .before .before .before .before .before .before .before)))) in
+    (answered _ s (now (c .before .before .before .before .before .before .before .before .before .before .before .before .before .before .before .before .before .args .out)) _ (long (c .before .before .before .before .before .before .before .before .before .before .before .before .before)) _ (asked (c .before .before .before .before .before .before .before .before)), put-there _ s (now (c .before .before .before .before .before .before .before .before .before .before .before .before .before .before .before .before .before .args .out)) _ (long (c .before .before .before .before .before .before .before .before .before .before .before .before .before)) _ (asked (c .before .before .before .before .before .before .before .before)) _ (c .before .before .before .before .before .before .enum-told .given .1) _ put)
 
 pub write-openbmp-header-spec : {M : Type 1} → statement M
 write-openbmp-header-spec =
