@@ -125,7 +125,7 @@ module _ (r : Reading) (g : Good r) where
       value-be 1 (flagsOf (r .routerBit) (r .ipv6Bit) (r .lowerBits))
       (omega (arith, g .router-bit-is, g .ipv6-bit-is, bit-small (r .routerIp), g .lower-bits-fit))
 
-  by-lengths : partsOf (join r) (r .adminLength) (r .groupLength) ≡ r
+  pub by-lengths : partsOf (join r) (r .adminLength) (r .groupLength) ≡ r
   unfolding be
   by-lengths =
       let s = join r in
