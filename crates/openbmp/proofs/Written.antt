@@ -19,7 +19,7 @@ use Rattle.models.specs.declared.IpAddr.{IpAddr}
 use Rattle.models.proofs.Promises.{equals-is-equality}
 use Rattle.openbmp.specs.Grammar.{RouterIp, ipv4, ipv6, routerIpBytes, flagsOf}
 use Rattle.openbmp.specs.Shown.{shownIp}
-use Rattle.openbmp.specs.Write.{familyBit, ipOf, blankIp, bytesOf, fixedFits, timeFits, ipFits, viewFits, writable, frontBytes, timeBytes, counted, restBytes}
+use Rattle.openbmp.specs.Write.{familyBit, ipOf, blankIp, bytesOf, fixedFits, timeFits, ipFits, viewFits, writable, frontBytes, timeBytes, counted, restBytes, allBytes}
 use Rattle.openbmp.specs.declared.OpenBmpHeader.{OpenBmpHeader}
 
 -- ---- one put after the other
@@ -41,23 +41,22 @@ put-time out o1 o2 o3 seconds microseconds room e1 e2 e3 =
     let p2 = put-then out o1 o2 14 18 (be 4 seconds) (be 4 microseconds) (omega arith) e1 refl e2 in
     put-then out o2 o3 14 22 (be 4 seconds ++ be 4 microseconds) (replicate 16 0) (omega arith) p2 refl e3
 
-pub put-front : (h : OpenBmpHeader) (flags : ℕ) (out o1 o2 o3 o4 o5 o6 o7 : List ℕ) → flags ≡ flagsOf 1 (familyBit (h .«router_ip» .afi)) 0 → 14 ≤ length out
-    → o1 ≡ putAt out 0 (be 4 0x4F424D50) → o2 ≡ putAt o1 4 (be 1 (h .«major_version»)) → o3 ≡ putAt o2 5 (be 1 (h .«minor_version»))
-    → o4 ≡ putAt o3 6 (be 2 (h .«header_len»)) → o5 ≡ putAt o4 8 (be 4 (h .«msg_len»))
-    → o6 ≡ putAt o5 12 (be 1 flags) → o7 ≡ putAt o6 13 (be 1 (h .«object_type»)) → o7 ≡ putAt out 0 (frontBytes h)
-unfolding be
-put-front h flags out o1 o2 o3 o4 o5 o6 o7 known room e1 e2 e3 e4 e5 e6 e7 =
-    let a2 = be 4 0x4F424D50 ++ be 1 (h .«major_version») in
-    let a3 = a2 ++ be 1 (h .«minor_version») in
-    let a4 = a3 ++ be 2 (h .«header_len») in
-    let a5 = a4 ++ be 4 (h .«msg_len») in
-    let p2 = put-then out o1 o2 0 4 (be 4 0x4F424D50) (be 1 (h .«major_version»)) (omega arith) e1 refl e2 in
-    let p3 = put-then out o2 o3 0 5 a2 (be 1 (h .«minor_version»)) (omega arith) p2 refl e3 in
-    let p4 = put-then out o3 o4 0 6 a3 (be 2 (h .«header_len»)) (omega arith) p3 refl e4 in
-    let p5 = put-then out o4 o5 0 8 a4 (be 4 (h .«msg_len»)) (omega arith) p4 refl e5 in
-    let p6 = put-then out o5 o6 0 12 a5 (be 1 flags) (omega arith) p5 refl e6 in
-    let p7 = put-then out o6 o7 0 13 (a5 ++ be 1 flags) (be 1 (h .«object_type»)) (omega arith) p6 refl e7 in
-    p7 ∙ (λ i. putAt out 0 (a5 ++ (be 1 (known i) ++ be 1 (h .«object_type»))))
+module _ (headerLength messageLength flags : ℕ) where
+  pub put-front : (out o1 o2 o3 o4 o5 o6 o7 : List ℕ) → 14 ≤ length out
+      → o1 ≡ putAt out 0 (be 4 0x4F424D50) → o2 ≡ putAt o1 4 (be 1 1) → o3 ≡ putAt o2 5 (be 1 7)
+      → o4 ≡ putAt o3 6 (be 2 headerLength) → o5 ≡ putAt o4 8 (be 4 messageLength) → o6 ≡ putAt o5 12 (be 1 flags) → o7 ≡ putAt o6 13 (be 1 12)
+      → o7 ≡ putAt out 0 (frontBytes headerLength messageLength flags)
+  unfolding be
+  put-front out o1 o2 o3 o4 o5 o6 o7 room e1 e2 e3 e4 e5 e6 e7 =
+      let a3 = be 4 0x4F424D50 ++ (be 1 1 ++ be 1 7) in
+      let a4 = a3 ++ be 2 headerLength in
+      let a5 = a4 ++ be 4 messageLength in
+      let p2 = put-then out o1 o2 0 4 (be 4 0x4F424D50) (be 1 1) (omega arith) e1 refl e2 in
+      let p3 = put-then out o2 o3 0 5 (be 4 0x4F424D50 ++ be 1 1) (be 1 7) (omega arith) p2 refl e3 in
+      let p4 = put-then out o3 o4 0 6 a3 (be 2 headerLength) (omega arith) p3 refl e4 in
+      let p5 = put-then out o4 o5 0 8 a4 (be 4 messageLength) (omega arith) p4 refl e5 in
+      let p6 = put-then out o5 o6 0 12 a5 (be 1 flags) (omega arith) p5 refl e6 in
+      put-then out o6 o7 0 13 (a5 ++ be 1 flags) (be 1 12) (omega arith) p6 refl e7
 
 module _ (octets admin group : List ℕ) where
   length-rest : length octets ≡ 16 → length (restBytes octets admin group) ≡ 40 + length admin + length group
@@ -65,8 +64,15 @@ module _ (octets admin group : List ℕ) where
       let b4 = counted group ++ be 4 1 in
       let b3 = octets ++ b4 in
       omega (
-        arith, sixteen, length-counted admin, length-counted group, length-be 4 1, length-append (counted group) (be 4 1), length-append octets b4,
-        length-append (replicate 16 0) b3, length-append (counted admin) (replicate 16 0 ++ b3),
+        arith,
+        sixteen,
+        length-counted admin,
+        length-counted group,
+        length-be 4 1,
+        length-append (counted group) (be 4 1),
+        length-append octets b4,
+        length-append (replicate 16 0) b3,
+        length-append (counted admin) (replicate 16 0 ++ b3),
       )
 
   pub put-rest : (out o1 o2 o3 o4 o5 : List ℕ) → length octets ≡ 16 → 78 + length admin + length group ≤ length out
@@ -91,26 +97,25 @@ module _ (octets admin group : List ℕ) where
       let q2 = put-then o1 o2 o5 (40 + a) (56 + a) (replicate 16 0) b3 (omega arith) e2 (omega arith) q3 in
       put-then out o1 o5 38 (40 + a) (counted admin) (replicate 16 0 ++ b3) (omega arith) e1 (omega arith) q2
 
--- the three runs of a header's bytes
-abbrev pub allBytes : OpenBmpHeader → List ℕ → List ℕ → List ℕ
-allBytes h admin group = frontBytes h ++ (timeBytes (h .seconds) (h .microseconds) ++ restBytes (h .«router_ip» .octets) admin group)
-
 module _ (h : OpenBmpHeader) (admin group : List ℕ) where
   pub length-all : length (h .«router_ip» .octets) ≡ 16 → length (allBytes h admin group) ≡ 78 + length admin + length group
   unfolding be
   length-all sixteen = omega (arith, length-rest (h .«router_ip» .octets) admin group sixteen)
 
-  pub put-header : (out o1 o2 o3 : List ℕ) → length (h .«router_ip» .octets) ≡ 16 → 78 + length admin + length group ≤ length out
-      → o1 ≡ putAt out 0 (frontBytes h) → o2 ≡ putAt o1 14 (timeBytes (h .seconds) (h .microseconds))
+  pub put-header : (flags : ℕ) (out o1 o2 o3 : List ℕ) → length (h .«router_ip» .octets) ≡ 16 → 78 + length admin + length group ≤ length out
+      → flags ≡ flagsOf 1 (familyBit (h .«router_ip» .afi)) 0
+      → o1 ≡ putAt out 0 (frontBytes (h .«header_len») (h .«msg_len») flags) → o2 ≡ putAt o1 14 (timeBytes (h .seconds) (h .microseconds))
       → o3 ≡ putAt o2 38 (restBytes (h .«router_ip» .octets) admin group) → o3 ≡ sets out 0 (allBytes h admin group)
   unfolding be
-  put-header out o1 o2 o3 sixteen room e1 e2 e3 =
+  put-header flags out o1 o2 o3 sixteen room known e1 e2 e3 =
+      let front = frontBytes (h .«header_len») (h .«msg_len») flags in
       let time = timeBytes (h .seconds) (h .microseconds) in
       let rest = restBytes (h .«router_ip» .octets) admin group in
       let n = length-rest (h .«router_ip» .octets) admin group sixteen in
-      let p2 = put-then out o1 o2 0 14 (frontBytes h) time (omega arith) e1 refl e2 in
-      let p3 = put-then out o2 o3 0 38 (frontBytes h ++ time) rest (omega arith) p2 refl e3 in
-      p3 ∙ put-fits out 0 (allBytes h admin group) (omega (arith, length-all sixteen))
+      let p2 = put-then out o1 o2 0 14 front time (omega arith) e1 refl e2 in
+      let p3 = put-then out o2 o3 0 38 (front ++ time) rest (omega arith) p2 refl e3 in
+      p3 ∙ (λ i. putAt out 0 (frontBytes (h .«header_len») (h .«msg_len») (known i) ++ (time ++ rest)))
+      ∙ put-fits out 0 (allBytes h admin group) (omega (arith, length-all sixteen))
 
 -- ---- what `writable` asks
 pub viewed-long : (b : List ℕ) (v : View) → v .place + v .length ≤ length b → length (viewed b v) ≡ v .length
@@ -186,8 +191,10 @@ module _ (h : OpenBmpHeader) (b : List ℕ) where
       written-ip (ipOf (h .«router_ip»)) ∙ ap (λ (a : IpAddr). a .octets) (w .ip-is) in
       let admin-long = sym (viewed-long b (h .«admin_id») (w .admin-inside)) in
       let group-long = sym (viewed-long b (h .«router_group») (w .group-inside)) in
-      λ i. frontBytes h ++ (timeBytes (h .seconds) (h .microseconds) ++
-      (be 2 (admin-long i) ++ (admin ++ (replicate 16 0 ++ (octets i ++ (be 2 (group-long i) ++ (group ++ be 4 1)))))))
+      let flags = flagsOf 1 (familyBit (h .«router_ip» .afi)) 0 in
+      λ i. be 4 0x4F424D50 ++ (be 1 (w .major-is i) ++ (be 1 (w .minor-is i) ++ (be 2 (h .«header_len») ++ (be 4 (h .«msg_len») ++
+      (be 1 flags ++ (be 1 (w .object-type-is i) ++ (timeBytes (h .seconds) (h .microseconds) ++
+      (be 2 (admin-long i) ++ (admin ++ (replicate 16 0 ++ (octets i ++ (be 2 (group-long i) ++ (group ++ be 4 1)))))))))))))
 
   pub length-written : length (h .«router_ip» .octets) ≡ 16 → writable h (length b) ≡ true
       → length (bytesOf h b) ≡ 78 + h .«admin_id» .length + h .«router_group» .length

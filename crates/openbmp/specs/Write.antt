@@ -82,10 +82,9 @@ writable h room =
     && (timeFits h && (ipFits (h .«router_ip») && (viewFits (h .«admin_id») room && viewFits (h .«router_group») room)))
 
 -- ---- the bytes of a writable header in the three runs in which they are put, by its octets and the bytes that its views show
-abbrev pub frontBytes : OpenBmpHeader → List ℕ
-frontBytes h =
-    be 4 0x4F424D50 ++ (be 1 (h .«major_version») ++ (be 1 (h .«minor_version») ++ (be 2 (h .«header_len») ++ (be 4 (h .«msg_len») ++
-    (be 1 (flagsOf 1 (familyBit (h .«router_ip» .afi)) 0) ++ be 1 (h .«object_type»))))))
+abbrev pub frontBytes : ℕ → ℕ → ℕ → List ℕ
+frontBytes headerLength messageLength flags =
+    be 4 0x4F424D50 ++ (be 1 1 ++ (be 1 7 ++ (be 2 headerLength ++ (be 4 messageLength ++ (be 1 flags ++ be 1 12)))))
 
 abbrev pub timeBytes : ℕ → ℕ → List ℕ
 timeBytes seconds microseconds = be 4 seconds ++ (be 4 microseconds ++ replicate 16 0)
@@ -96,6 +95,11 @@ counted l = be 2 (length l) ++ l
 
 abbrev pub restBytes : List ℕ → List ℕ → List ℕ → List ℕ
 restBytes octets admin group = counted admin ++ (replicate 16 0 ++ (octets ++ (counted group ++ be 4 1)))
+
+abbrev pub allBytes : OpenBmpHeader → List ℕ → List ℕ → List ℕ
+allBytes h admin group =
+    frontBytes (h .«header_len») (h .«msg_len») (flagsOf 1 (familyBit (h .«router_ip» .afi)) 0)
+    ++ (timeBytes (h .seconds) (h .microseconds) ++ restBytes (h .«router_ip» .octets) admin group)
 
 -- what the types of its fields say of every header
 pub record Typed (h : OpenBmpHeader) : Type 0 where

@@ -5,7 +5,6 @@ use wire::Refusal;
 use wire::View;
 use writing::WriteAnswer;
 ghost use mathlib.Core.Path.{_≡_};
-ghost use mathlib.Core.Bool.{true};
 ghost use mathlib.Core.List.{_++_};
 ghost use Prim.Native.Nat.{_≤_, _<_, _+_};
 ghost use lib.ListN.{length, take, replicate};
@@ -15,7 +14,7 @@ ghost use Rattle.writing.specs.Write.{putAt, writeAnswer, written};
 ghost use Rattle.openbmp.specs.Grammar.{flagsOf};
 ghost use Rattle.openbmp.specs.Shown.{shownIp, shown, refused};
 ghost use Rattle.openbmp.specs.Read.{routerIpOf, familyOf, partsOf, cut, afterRowCount, afterGroupLength, afterAdminLength, afterType, afterFlags, afterVersions, afterMagic, readOpenBmpHeader};
-ghost use Rattle.openbmp.specs.Write.{familyBit, fixedFits, ipFits, viewFits, writable, bytesOf, frontBytes, timeBytes, counted, restBytes};
+ghost use Rattle.openbmp.specs.Write.{familyBit, fixedFits, ipFits, viewFits, writable, bytesOf, frontBytes, timeBytes, counted, restBytes, allBytes};
 
 // Beside the time stand the words that it comes from.
 pub struct OpenBmpHeader {
@@ -168,7 +167,10 @@ fn read_header(s: &[u8], admin: usize, group: usize) -> OpenBmpAnswer
             place: 40,
             length: admin,
         },
-        router_ip: shown_ip(family(wire::u8_at(s, 12)), layout::sixteen_at(s, 56 + admin)),
+        router_ip: shown_ip(
+            family(wire::u8_at(s, 12)),
+            layout::sixteen_at(s, 56 + admin),
+        ),
         router_group: View {
             place: 74 + admin,
             length: group,
@@ -234,7 +236,25 @@ fn refuse(number: u8, place: usize) -> OpenBmpAnswer
 fn cut(length: usize, admin: usize, group: usize) -> OpenBmpAnswer
     ensures { λ r. ⌜ r ≡ cut length admin group ⌝ }
 {
-    let widths = [4usize, 1, 1, 2, 4, 1, 1, 4, 4, 16, 2, admin, 16, 16, 2, group, 4];
+    let widths = [
+        4usize,
+        1,
+        1,
+        2,
+        4,
+        1,
+        1,
+        4,
+        4,
+        16,
+        2,
+        admin,
+        16,
+        16,
+        2,
+        group,
+        4,
+    ];
     refused_with(layout::cut_in(&widths, 0, length))
 }
 
@@ -267,11 +287,7 @@ fn refused_with(refusal: Refusal) -> OpenBmpAnswer
 }
 
 // A writable header is never too long: each of its two texts has at most 65,535 bytes.
-pub fn write_openbmp_header(
-    header: OpenBmpHeader,
-    buffer: &[u8],
-    out: &mut [u8],
-) -> WriteAnswer
+pub fn write_openbmp_header(header: OpenBmpHeader, buffer: &[u8], out: &mut [u8]) -> WriteAnswer
     ensures { λ r. ⌜ r ≡ writeAnswer (writable header (length (now (buffer .entry)))) (length (bytesOf header (now (buffer .entry)))) (length (now (out .entry))) ⌝ }
     ensures { λ _. ⌜ now (out .exit) ≡ written (writable header (length (now (buffer .entry)))) (bytesOf header (now (buffer .entry))) (now (out .entry)) ⌝ }
 {
@@ -285,7 +301,12 @@ pub fn write_openbmp_header(
     let WriteAnswer::Written(_) = answer else {
         return answer;
     };
-    put_header(header, admin_id.part(buffer), router_group.part(buffer), out);
+    put_header(
+        header,
+        admin_id.part(buffer),
+        router_group.part(buffer),
+        out,
+    );
     answer
 }
 
@@ -295,7 +316,11 @@ fn is_writable(header: OpenBmpHeader, room: usize) -> bool
     let router_ip = header.router_ip;
     let admin_id = header.admin_id;
     let router_group = header.router_group;
-    if !has_fixed_values(header.major_version, header.minor_version, header.object_type) {
+    if !has_fixed_values(
+        header.major_version,
+        header.minor_version,
+        header.object_type,
+    ) {
         return false;
     }
     if !models::is_timestamp(header.timestamp, header.seconds, header.microseconds) {
@@ -345,28 +370,28 @@ fn put_header(header: OpenBmpHeader, admin: &[u8], group: &[u8], out: &mut [u8])
     requires { ⌜ length (now admin) < 65536 ⌝ }
     requires { ⌜ length (now group) < 65536 ⌝ }
     requires { ⌜ 78 + length (now admin) + length (now group) ≤ length (now out) ⌝ }
-    ensures { λ _. ⌜ now (out .exit) ≡ sets (now (out .entry)) 0 (frontBytes header ++ (timeBytes (header .seconds) (header .microseconds) ++ restBytes (header .«router_ip» .octets) (now (admin .entry)) (now (group .entry)))) ⌝ }
+    ensures { λ _. ⌜ now (out .exit) ≡ sets (now (out .entry)) 0 (allBytes header (now (admin .entry)) (now (group .entry))) ⌝ }
 {
     let router_ip = header.router_ip;
+    let afi = router_ip.afi;
     let octets = router_ip.octets;
-    put_front(header, out);
+    put_front(header.header_len, header.msg_len, flags_of(afi), out);
     put_time(header.seconds, header.microseconds, out);
     put_rest(octets, admin, group, out);
 }
 
-fn put_front(header: OpenBmpHeader, out: &mut [u8])
+// Versions and object type are the ones that every writable header has.
+fn put_front(header_len: u16, msg_len: u32, flags: u8, out: &mut [u8])
     requires { ⌜ 14 ≤ length (now out) ⌝ }
-    ensures { λ _. ⌜ now (out .exit) ≡ putAt (now (out .entry)) 0 (frontBytes header) ⌝ }
+    ensures { λ _. ⌜ now (out .exit) ≡ putAt (now (out .entry)) 0 (frontBytes «header_len» «msg_len» flags) ⌝ }
 {
-    let router_ip = header.router_ip;
-    let afi = router_ip.afi;
     writing::put_u32(out, 0, MAGIC_NUMBER);
-    writing::put_u8(out, 4, header.major_version);
-    writing::put_u8(out, 5, header.minor_version);
-    writing::put_u16(out, 6, header.header_len);
-    writing::put_u32(out, 8, header.msg_len);
-    writing::put_u8(out, 12, flags_of(afi));
-    writing::put_u8(out, 13, header.object_type);
+    writing::put_u8(out, 4, MAJOR_VERSION);
+    writing::put_u8(out, 5, MINOR_VERSION);
+    writing::put_u16(out, 6, header_len);
+    writing::put_u32(out, 8, msg_len);
+    writing::put_u8(out, 12, flags);
+    writing::put_u8(out, 13, RAW_BMP);
 }
 
 fn flags_of(afi: Afi) -> u8

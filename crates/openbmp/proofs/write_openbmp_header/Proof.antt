@@ -10,8 +10,8 @@ use lib.Seq.{sets}
 use Rattle.layout.proofs.Octets.{array-bytes}
 use Rattle.writing.specs.Write.{writeAnswer}
 use Rattle.writing.proofs.Answers.{answered, left-alone, wrote, put-there, refused-so}
-use Rattle.openbmp.specs.Write.{bytesOf, writable, Typed}
-use Rattle.openbmp.proofs.Written.{Writable, writable-is, viewed-long, allBytes, bytes-are, length-written}
+use Rattle.openbmp.specs.Write.{bytesOf, writable, allBytes, Typed}
+use Rattle.openbmp.proofs.Written.{Writable, writable-is, viewed-long, bytes-are, length-written}
 use Rattle.openbmp.proofs.write_openbmp_header.Statement.{statement}
 use Rattle.openbmp.proofs.write_openbmp_header.Tie as tie
 
