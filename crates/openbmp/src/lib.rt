@@ -8,13 +8,12 @@ ghost use mathlib.Core.Path.{_≡_};
 ghost use mathlib.Core.List.{_++_};
 ghost use Prim.Native.Nat.{_≤_, _<_, _+_};
 ghost use lib.ListN.{length, take, replicate};
-ghost use lib.Seq.{sets};
 ghost use Rattle.wire.specs.Read.{refusal};
 ghost use Rattle.writing.specs.Write.{putAt, writeAnswer, written};
 ghost use Rattle.openbmp.specs.Grammar.{flagsOf};
 ghost use Rattle.openbmp.specs.Shown.{shownIp, shown, refused};
 ghost use Rattle.openbmp.specs.Read.{routerIpOf, familyOf, partsOf, cut, afterRowCount, afterGroupLength, afterAdminLength, afterType, afterFlags, afterVersions, afterMagic, readOpenBmpHeader};
-ghost use Rattle.openbmp.specs.Write.{familyBit, fixedFits, ipFits, viewFits, writable, bytesOf, frontBytes, timeBytes, counted, restBytes, allBytes};
+ghost use Rattle.openbmp.specs.Write.{familyBit, fixedFits, ipFits, viewFits, writable, bytesOf, frontBytes, timeBytes, counted, restBytes};
 
 // Beside the time stand the words that it comes from.
 pub struct OpenBmpHeader {
@@ -286,7 +285,8 @@ fn refused_with(refusal: Refusal) -> OpenBmpAnswer
     }
 }
 
-// A writable header is never too long: each of its two texts has at most 65,535 bytes.
+// A writable header is never too long: each of its two texts has at most 65,535 bytes. Its octets that are skipped on reading are zero,
+// so all sixteen are put as they are.
 pub fn write_openbmp_header(header: OpenBmpHeader, buffer: &[u8], out: &mut [u8]) -> WriteAnswer
     ensures { λ r. ⌜ r ≡ writeAnswer (writable header (length (now (buffer .entry)))) (length (bytesOf header (now (buffer .entry)))) (length (now (out .entry))) ⌝ }
     ensures { λ _. ⌜ now (out .exit) ≡ written (writable header (length (now (buffer .entry)))) (bytesOf header (now (buffer .entry))) (now (out .entry)) ⌝ }
@@ -301,8 +301,13 @@ pub fn write_openbmp_header(header: OpenBmpHeader, buffer: &[u8], out: &mut [u8]
     let WriteAnswer::Written(_) = answer else {
         return answer;
     };
-    put_header(
-        header,
+    let router_ip = header.router_ip;
+    let afi = router_ip.afi;
+    let octets = router_ip.octets;
+    put_front(header.header_len, header.msg_len, flags_of(afi), out);
+    put_time(header.seconds, header.microseconds, out);
+    put_rest(
+        octets,
         admin_id.part(buffer),
         router_group.part(buffer),
         out,
@@ -363,21 +368,6 @@ fn view_fits(view: View, room: usize) -> bool
         return false;
     }
     view.is_inside(room)
-}
-
-// In a writable header the octets that are skipped on reading are zero, so all sixteen are put as they are.
-fn put_header(header: OpenBmpHeader, admin: &[u8], group: &[u8], out: &mut [u8])
-    requires { ⌜ length (now admin) < 65536 ⌝ }
-    requires { ⌜ length (now group) < 65536 ⌝ }
-    requires { ⌜ 78 + length (now admin) + length (now group) ≤ length (now out) ⌝ }
-    ensures { λ _. ⌜ now (out .exit) ≡ sets (now (out .entry)) 0 (allBytes header (now (admin .entry)) (now (group .entry))) ⌝ }
-{
-    let router_ip = header.router_ip;
-    let afi = router_ip.afi;
-    let octets = router_ip.octets;
-    put_front(header.header_len, header.msg_len, flags_of(afi), out);
-    put_time(header.seconds, header.microseconds, out);
-    put_rest(octets, admin, group, out);
 }
 
 // Versions and object type are the ones that every writable header has.

@@ -10,8 +10,9 @@ use lib.Seq.{sets}
 use Rattle.layout.proofs.Octets.{array-bytes}
 use Rattle.writing.specs.Write.{writeAnswer}
 use Rattle.writing.proofs.Answers.{answered, left-alone, wrote, put-there, refused-so}
-use Rattle.openbmp.specs.Write.{bytesOf, writable, allBytes, Typed}
-use Rattle.openbmp.proofs.Written.{Writable, writable-is, viewed-long, bytes-are, length-written}
+use Rattle.openbmp.specs.Write.{bytesOf, writable, frontBytes, timeBytes, allBytes, Typed}
+use Rattle.writing.proofs.Sets.{length-put}
+use Rattle.openbmp.proofs.Written.{put-header, viewed-long, Writable, writable-is, bytes-are, length-written}
 use Rattle.openbmp.proofs.write_openbmp_header.Statement.{statement}
 use Rattle.openbmp.proofs.write_openbmp_header.Tie as tie
 
@@ -39,6 +40,25 @@ long c w = length-written (c .before .before .before .before .args .header) (now
 
 asked : (c : tie.After-write-answer2) → c .write-answer2 .result ≡ writeAnswer (writable (c .before .before .before .before .before .before .before .before .before .args .header) (length (now (c .before .before .before .before .before .before .before .before .before .args .buffer)))) (78 + c .before .before .before .before .before .before .before .before .before .args .header .«admin_id» .length + c .before .before .before .before .before .before .before .before .before .args .header .«router_group» .length) (length (now (c .before .before .before .before .before .before .before .before .before .args .out)))
 asked c = c .write-answer2 .ensures ∙ ap (λ (b : Bool). writeAnswer b (78 + c .before .before .before .before .before .before .before .before .before .args .header .«admin_id» .length + c .before .before .before .before .before .before .before .before .before .args .header .«router_group» .length) (length (now (c .before .before .before .before .before .before .before .before .before .args .out)))) (sym (okay (c .before .before .before .before .before)))
+
+room : (c : tie.After-enum-told) → 78 + c .before .before .before .before .before .before .before .before .before .before .before .args .header .«admin_id» .length + c .before .before .before .before .before .before .before .before .before .before .before .args .header .«router_group» .length ≤ length (now (c .before .before .before .before .before .before .before .before .before .before .before .args .out))
+room c =
+    subst (λ (k : ℕ). k ≤ length (now (c .before .before .before .before .before .before .before .before .before .before .before .args .out))) (long (c .before .before .before .before .before .before .before) (okay (c .before .before .before .before .before .before .before)))
+    (wrote _ (bytesOf (c .before .before .before .before .before .before .before .before .before .before .before .args .header) (now (c .before .before .before .before .before .before .before .before .before .before .before .args .buffer))) (now (c .before .before .before .before .before .before .before .before .before .before .before .args .out)) _ (long (c .before .before .before .before .before .before .before)) _ (asked (c .before .before)) _ (c .enum-told .given .1) .fits)
+
+after-front : (c : tie.After-put-front) → length (c .put-front .last .1 .1 .1 .0) ≡ length (now (c .before .before .before .before .before .before .before .before .before .before .before .before .before .before .before .before .args .out))
+after-front c = ap length (c .put-front .ensures) ∙ length-put (now (c .before .before .before .before .before .before .before .before .before .before .before .before .before .before .before .before .args .out)) 0 (frontBytes (c .before .before .before .before .before .before .before .before .before .before .before .before .before .before .before .before .args .header .«header_len») (c .before .before .before .before .before .before .before .before .before .before .before .before .before .before .before .before .args .header .«msg_len») (c .before .before .flags-of .result))
+
+after-time : (c : tie.After-put-time) → length (c .put-time .last .1 .1 .0) ≡ length (now (c .before .before .before .before .before .before .before .before .before .before .before .before .before .before .before .before .before .before .before .before .args .out))
+after-time c =
+    ap length (c .put-time .ensures) ∙ length-put (c .before .before .before .before .put-front .last .1 .1 .1 .0) 14 (timeBytes (c .before .before .before .before .before .before .before .before .before .before .before .before .before .before .before .before .before .before .before .before .args .header .seconds) (c .before .before .before .before .before .before .before .before .before .before .before .before .before .before .before .before .before .before .before .before .args .header .microseconds))
+    ∙ after-front (c .before .before .before .before)
+
+admin-long : (c : tie.After-part) → length (now (c .part .result)) ≡ c .before .before .before .before .before .before .before .before .before .before .before .before .before .before .before .before .before .before .before .before .before .before .before .args .header .«admin_id» .length
+admin-long c = ap length (c .part .ensures) ∙ viewed-long (now (c .before .before .before .before .before .before .before .before .before .before .before .before .before .before .before .before .before .before .before .before .before .before .before .args .buffer)) (c .before .before .before .before .before .before .before .before .before .before .before .before .before .before .before .before .before .before .before .before .before .before .before .args .header .«admin_id») (short (c .before .before .before .before .before .before .before .before .before .before .before .before .before .before .before .before .before .before .before) .admin-inside)
+
+group-long : (c : tie.After-part2) → length (now (c .part2 .result)) ≡ c .before .before .before .before .before .before .before .before .before .before .before .before .before .before .before .before .before .before .before .before .before .before .before .before .args .header .«router_group» .length
+group-long c = ap length (c .part2 .ensures) ∙ viewed-long (now (c .before .before .before .before .before .before .before .before .before .before .before .before .before .before .before .before .before .before .before .before .before .before .before .before .args .buffer)) (c .before .before .before .before .before .before .before .before .before .before .before .before .before .before .before .before .before .before .before .before .before .before .before .before .args .header .«router_group») (short (c .before .before .before .before .before .before .before .before .before .before .before .before .before .before .before .before .before .before .before .before) .group-inside)
 
 is-writable-requires : tie.Need-is-writable-requires
 is-writable-requires c κs = search needs
@@ -69,35 +89,48 @@ returns-2 c =
     let s = bytesOf (c .before .before .before .before .before .before .before .before .before .before .before .args .header) (now (c .before .before .before .before .before .before .before .before .before .before .before .args .buffer)) in
     (answered _ s (now (c .before .before .before .before .before .before .before .before .before .before .before .args .out)) _ (long (c .before .before .before .before .before .before .before)) _ (asked (c .before .before)), left-alone _ s (now (c .before .before .before .before .before .before .before .before .before .before .before .args .out)) _ (long (c .before .before .before .before .before .before .before)) _ (asked (c .before .before)) _ (c .enum-told2 .given .1))
 
+flags-of-requires : tie.Need-flags-of-requires
+flags-of-requires c κs = search needs
+
+put-front-requires : tie.Need-put-front-requires
+put-front-requires c κs = let r = room (c .before .before .before .before) in omega arith
+
+put-time-requires : tie.Need-put-time-requires
+put-time-requires c κs =
+    let r = room (c .before .before .before .before .before .before .before .before) in
+    subst (λ (k : ℕ). 38 ≤ k) (sym (after-front (c .before .before .before))) (omega arith)
+
 part-requires : tie.Need-part-requires
 part-requires c κs = search needs
 
 part-requires-2 : tie.Need-part-requires-2
 part-requires-2 c κs = search needs
 
-put-header-requires : tie.Need-put-header-requires
-put-header-requires c κs =
-    let h = c .before .before .before .before .before .before .before .before .before .before .before .before .before .before .args .header in
-    let b = now (c .before .before .before .before .before .before .before .before .before .before .before .before .before .before .args .buffer) in
-    let w = short (c .before .before .before .before .before .before .before .before .before .before) in
-    let admin = ap length (c .before .before .part .ensures) ∙ viewed-long b (h .«admin_id») (w .admin-inside) in
-    let group = ap length (c .before .part2 .ensures) ∙ viewed-long b (h .«router_group») (w .group-inside) in
-    let fits = wrote _ (bytesOf h b) (now (c .before .before .before .before .before .before .before .before .before .before .before .before .before .before .args .out)) _ (long (c .before .before .before .before .before .before .before .before .before .before)) _ (asked (c .before .before .before .before .before)) _ (c .before .before .before .enum-told .given .1) .fits in
-    let room : 78 + h .«admin_id» .length + h .«router_group» .length ≤ length (now (c .before .before .before .before .before .before .before .before .before .before .before .before .before .before .args .out)) = subst (λ (k : ℕ). k ≤ length (now (c .before .before .before .before .before .before .before .before .before .before .before .before .before .before .args .out))) (long (c .before .before .before .before .before .before .before .before .before .before) (okay (c .before .before .before .before .before .before .before .before .before .before))) fits in
-    (omega (arith, admin, w .admin-short), (omega (arith, group, w .group-short), omega (arith, admin, group, room)))
+put-rest-requires : tie.Need-put-rest-requires
+put-rest-requires c κs =
+    let r = room (c .before .before .before .before .before .before .before .before .before .before .before .before .before .before) in
+    let w = short (c .before .before .before .before .before .before .before .before .before .before .before .before .before .before .before .before .before .before .before .before .before) in
+    let a = admin-long (c .before .before) in
+    let g = group-long (c .before) in (
+      omega (arith, w .admin-short),
+      (omega (arith, w .group-short), subst (λ (k : ℕ). 78 + length (now (c .before .before .part .result)) + length (now (c .before .part2 .result)) ≤ k) (sym (after-time (c .before .before .before .before .before))) (omega arith)),
+    )
 
 same-length : tie.Need-same-length
 same-length c = search needs
 
 returns-3 : tie.Need-returns-3
 returns-3 c =
-    let h = c .before .before .before .before .before .before .before .before .before .before .before .before .before .before .before .before .before .args .header in
-    let b = now (c .before .before .before .before .before .before .before .before .before .before .before .before .before .before .before .before .before .args .buffer) in
+    let h = c .before .before .before .before .before .before .before .before .before .before .before .before .before .before .before .before .before .before .before .before .before .before .before .before .before .before .before .before .args .header in
+    let b = now (c .before .before .before .before .before .before .before .before .before .before .before .before .before .before .before .before .before .before .before .before .before .before .before .before .before .before .before .before .args .buffer) in
     let s = bytesOf h b in
-    let admin = c .before .before .before .before .before .part .ensures in
-    let group = c .before .before .before .before .part2 .ensures in
-    let put = c .before .before .put-header .ensures ∙ ap (sets (now (c .before .before .before .before .before .before .before .before .before .before .before .before .before .before .before .before .before .args .out)) 0) ((λ i. allBytes h (admin i) (group i)) ∙ sym (bytes-are h b (okay (c .before .before .before .before .before .before .before .before .before .before .before .before .before)))) in
-    (answered _ s (now (c .before .before .before .before .before .before .before .before .before .before .before .before .before .before .before .before .before .args .out)) _ (long (c .before .before .before .before .before .before .before .before .before .before .before .before .before)) _ (asked (c .before .before .before .before .before .before .before .before)), put-there _ s (now (c .before .before .before .before .before .before .before .before .before .before .before .before .before .before .before .before .before .args .out)) _ (long (c .before .before .before .before .before .before .before .before .before .before .before .before .before)) _ (asked (c .before .before .before .before .before .before .before .before)) _ (c .before .before .before .before .before .before .enum-told .given .1) _ put)
+    let r = room (c .before .before .before .before .before .before .before .before .before .before .before .before .before .before .before .before .before) in
+    let a = admin-long (c .before .before .before .before .before) in
+    let g = group-long (c .before .before .before .before) in
+    let all = put-header h (now (c .before .before .before .before .before .part .result)) (now (c .before .before .before .before .part2 .result)) (c .before .before .before .before .before .before .before .before .before .before .before .before .before .before .flags-of .result) (now (c .before .before .before .before .before .before .before .before .before .before .before .before .before .before .before .before .before .before .before .before .before .before .before .before .before .before .before .before .args .out)) _ _ _ (typed (c .before .before .before .before .before .before .before .before .before .before .before .before .before .before .before .before .before .before .before .before .before .before .before .before .before .before .before .before) .octets .0) (omega arith)
+    (c .before .before .before .before .before .before .before .before .before .before .before .before .before .before .flags-of .ensures) (c .before .before .before .before .before .before .before .before .before .before .before .before .put-front .ensures) (c .before .before .before .before .before .before .before .before .put-time .ensures) (c .before .before .put-rest .ensures) in
+    let same = (λ i. allBytes h (c .before .before .before .before .before .part .ensures i) (c .before .before .before .before .part2 .ensures i)) ∙ sym (bytes-are h b (okay (c .before .before .before .before .before .before .before .before .before .before .before .before .before .before .before .before .before .before .before .before .before .before .before .before))) in
+    (answered _ s (now (c .before .before .before .before .before .before .before .before .before .before .before .before .before .before .before .before .before .before .before .before .before .before .before .before .before .before .before .before .args .out)) _ (long (c .before .before .before .before .before .before .before .before .before .before .before .before .before .before .before .before .before .before .before .before .before .before .before .before)) _ (asked (c .before .before .before .before .before .before .before .before .before .before .before .before .before .before .before .before .before .before .before)), put-there _ s (now (c .before .before .before .before .before .before .before .before .before .before .before .before .before .before .before .before .before .before .before .before .before .before .before .before .before .before .before .before .args .out)) _ (long (c .before .before .before .before .before .before .before .before .before .before .before .before .before .before .before .before .before .before .before .before .before .before .before .before)) _ (asked (c .before .before .before .before .before .before .before .before .before .before .before .before .before .before .before .before .before .before .before)) _ (c .before .before .before .before .before .before .before .before .before .before .before .before .before .before .before .before .before .enum-told .given .1) _ (all ∙ ap (sets (now (c .before .before .before .before .before .before .before .before .before .before .before .before .before .before .before .before .before .before .before .before .before .before .before .before .before .before .before .before .args .out)) 0) same))
 
 pub write-openbmp-header-spec : {M : Type 1} → statement M
 write-openbmp-header-spec =
@@ -112,8 +145,11 @@ write-openbmp-header-spec =
     enum-told
     enum-told-2
     returns-2
+    flags-of-requires
+    put-front-requires
+    put-time-requires
     part-requires
     part-requires-2
-    put-header-requires
+    put-rest-requires
     same-length
     returns-3)
