@@ -76,7 +76,7 @@ fn after_magic(s: &[u8], magic: u32) -> OpenBmpAnswer
     after_versions(s, wire::u8_at(s, 4), wire::u8_at(s, 5))
 }
 
-// Both versions are judged at the place of the first.
+// The versions are one pair, and its place is that of the first.
 fn after_versions(s: &[u8], major: u8, minor: u8) -> OpenBmpAnswer
     ensures { λ r. ⌜ r ≡ afterVersions (now (s .entry)) major minor ⌝ }
 {
@@ -84,7 +84,7 @@ fn after_versions(s: &[u8], major: u8, minor: u8) -> OpenBmpAnswer
         return refuse(wire::BAD_OPEN_BMP, 4);
     }
     if minor != MINOR_VERSION {
-        return refuse(wire::BAD_OPEN_BMP, 4);
+        return refuse(wire::BAD_OPEN_BMP, 4); // and not 5
     }
     if s.len() < 13 {
         return cut(s.len(), 0, 0);
