@@ -1,5 +1,5 @@
 -- What a user of the OpenBMP header relies on. It has no table, so every good reading fits. Assumes nothing.
-use Prim.Native.Nat.{ℕ, _+_, _≤_, _<_}
+use Prim.Native.Nat.{ℕ, _+_, _≤_}
 use mathlib.Core.Bool.{true}
 use mathlib.Core.Path.{_≡_, sym, ap, _∙_, subst}
 use mathlib.Core.List.{List}
@@ -7,20 +7,24 @@ use native.Mathlib.Omega.{arith}
 use lib.ListN.{length, take}
 use Rattle.wire.specs.Number as Number
 use Rattle.wire.specs.Bytes.{Bytes}
+use Rattle.wire.specs.Read.{cutAt}
 use Rattle.wire.specs.View.{viewed}
 use Rattle.wire.proofs.Determined.{determined}
 use Rattle.writing.specs.Write.{lengthOf, writeAnswer, written}
 use Rattle.writing.specs.declared.WriteAnswer.{WriteAnswer}
 use Rattle.writing.specs.declared.WriteAnswer.the-variants.{Written}
 use Rattle.writing.proofs.Answers.{front}
+use Rattle.layout.specs.Layout.{firstCut}
+use Rattle.layout.proofs.Promises.{FirstLacking, first-lacking}
 use Rattle.openbmp.specs.Grammar.{Reading, join, Good}
 use Rattle.openbmp.specs.Shown.{shownHeader, shown}
 use Rattle.openbmp.specs.Read.{readOpenBmpHeader}
 use Rattle.openbmp.specs.Write.{readingOf, bytesOf, writable, Typed, Same}
 use Rattle.openbmp.specs.declared.OpenBmpHeader.{OpenBmpHeader}
 use Rattle.openbmp.specs.declared.OpenBmpAnswer.{OpenBmpAnswer}
-use Rattle.openbmp.proofs.Laws.{length-join, partsIn, parts-join, join-parts, parts-good, join-accepted, Accepted}
+use Rattle.openbmp.proofs.Laws.{length-join, partsIn, parts-join, join-parts, parts-good, join-accepted}
 use Rattle.openbmp.proofs.Stages.{accepted, shows-parts}
+use Rattle.openbmp.proofs.Cuts.{widthsIn, header-lacks}
 use Rattle.openbmp.proofs.Trip.{admin-viewed, group-viewed, bytes-written, good-reading, short-enough, same-again, again-writable}
 
 -- the answer to s shows r, and r is a good reading of s
@@ -42,6 +46,13 @@ complete r g short = shows-parts (join r) (join-accepted r g short) ∙ ap shown
 -- No input has two readings.
 pub unique : (r q : Reading) → Good r → Good q → join r ≡ join q → r ≡ q
 unique r q g h e = sym (parts-join r g) ∙ ap partsIn e ∙ parts-join q h
+
+-- A header that is cut is refused at the first field that lacks bytes, by the widths that the lengths in it give.
+pub refuses-cut : (s : List ℕ) → readOpenBmpHeader s .refusal .number ≡ Number.Cut
+    → (readOpenBmpHeader s .refusal ≡ cutAt (firstCut (widthsIn s) 0 (length s))) × FirstLacking (widthsIn s) 0 (length s) (firstCut (widthsIn s) 0 (length s))
+refuses-cut s e =
+    let c = header-lacks s e in
+    (c .0, first-lacking (widthsIn s) 0 (length s) (omega arith) (omega (arith, c .1)))
 
 -- The views of the answer that shows a reading show its admin and its group.
 pub views : (r : Reading) → Good r

@@ -1,16 +1,15 @@
 -- The reading of a header: it is good and shows the header again where that is writable, and only there. Assumes nothing.
-use Prim.Native.Nat.{ℕ, zero, suc, _+_, _≤_, _<_, _^_}
+use Prim.Native.Nat.{ℕ, zero, suc, _+_, _≤_}
 use mathlib.Core.Bool.{true}
 use mathlib.Core.Path.{_≡_, refl, sym, ap, _∙_, subst}
-use mathlib.Core.List.{List, _++_}
+use mathlib.Core.List.{List}
 use native.Mathlib.Omega.{arith}
 use lib.Dec.{lit<}
-use lib.ListN.{length, take, drop, replicate, length-replicate}
+use lib.ListN.{length, replicate, length-replicate}
 use lib.Seq.{take-at}
 use Rattle.wire.specs.Number as Number
-use Rattle.wire.specs.Bytes.{be, Bytes, none, more}
+use Rattle.wire.specs.Bytes.{Bytes, none, more}
 use Rattle.wire.specs.View.{view, viewed}
-use Rattle.wire.specs.declared.View.{View}
 use Rattle.wire.proofs.Bytes.{bytes-be, bytes-append}
 use Rattle.wire.proofs.Views.{viewed-inside, bytes-viewed}
 use Rattle.models.specs.Time.{timeOf}
@@ -20,7 +19,7 @@ use Rattle.models.specs.declared.IpAddr.{IpAddr}
 use Rattle.models.proofs.Promises.{is-timestamp-is-equality}
 use Rattle.openbmp.specs.Grammar.{RouterIp, ipv4, ipv6, Reading, flagsOf, routerIpBytes, join, Exactly, RouterIpFits, bitOf, Good}
 use Rattle.openbmp.specs.Shown.{shownIp, shownHeader}
-use Rattle.openbmp.specs.Read.{routerIpOf, readOpenBmpHeader}
+use Rattle.openbmp.specs.Read.{routerIpOf}
 use Rattle.openbmp.specs.Write.{familyBit, ipOf, blankIp, readingOf, bytesOf, writable, Typed, Same}
 use Rattle.openbmp.specs.declared.OpenBmpHeader.{OpenBmpHeader}
 use Rattle.openbmp.proofs.Laws.{ip-fits, length-join, by-lengths}

@@ -102,7 +102,7 @@ module _ (h : OpenBmpHeader) (admin group : List ℕ) where
   unfolding be
   length-all sixteen = omega (arith, length-rest (h .«router_ip» .octets) admin group sixteen)
 
-  pub put-header : (flags : ℕ) (out o1 o2 o3 : List ℕ) → length (h .«router_ip» .octets) ≡ 16 → 78 + length admin + length group ≤ length out
+  put-header : (flags : ℕ) (out o1 o2 o3 : List ℕ) → length (h .«router_ip» .octets) ≡ 16 → 78 + length admin + length group ≤ length out
       → flags ≡ flagsOf 1 (familyBit (h .«router_ip» .afi)) 0
       → o1 ≡ putAt out 0 (frontBytes (h .«header_len») (h .«msg_len») flags) → o2 ≡ putAt o1 14 (timeBytes (h .seconds) (h .microseconds))
       → o3 ≡ putAt o2 38 (restBytes (h .«router_ip» .octets) admin group) → o3 ≡ sets out 0 (allBytes h admin group)
@@ -181,7 +181,7 @@ written-ip (ipv4 address skipped) = refl
 written-ip (ipv6 address) = refl
 
 module _ (h : OpenBmpHeader) (b : List ℕ) where
-  pub bytes-are : writable h (length b) ≡ true → bytesOf h b ≡ allBytes h (viewed b (h .«admin_id»)) (viewed b (h .«router_group»))
+  bytes-are : writable h (length b) ≡ true → bytesOf h b ≡ allBytes h (viewed b (h .«admin_id»)) (viewed b (h .«router_group»))
   unfolding be
   bytes-are e =
       let w = writable-is h (length b) e in
@@ -202,3 +202,18 @@ module _ (h : OpenBmpHeader) (b : List ℕ) where
       let w = writable-is h (length b) e in
       ap length (bytes-are e) ∙ length-all h (viewed b (h .«admin_id»)) (viewed b (h .«router_group»)) sixteen
       ∙ omega (arith, viewed-long b (h .«admin_id») (w .admin-inside), viewed-long b (h .«router_group») (w .group-inside))
+
+  -- the three puts of a writable header, whose views show admin and group
+  module _ (e : writable h (length b) ≡ true) (admin group : List ℕ) (admin-is : admin ≡ viewed b (h .«admin_id»)) (group-is : group ≡ viewed b (h .«router_group»)) where
+    pub lengths-are : (length admin ≡ h .«admin_id» .length) × (length group ≡ h .«router_group» .length)
+    lengths-are =
+        let w = writable-is h (length b) e in
+        (ap length admin-is ∙ viewed-long b (h .«admin_id») (w .admin-inside), ap length group-is ∙ viewed-long b (h .«router_group») (w .group-inside))
+
+    pub put-written : (flags : ℕ) (out o1 o2 o3 : List ℕ) → length (h .«router_ip» .octets) ≡ 16 → 78 + length admin + length group ≤ length out
+        → flags ≡ flagsOf 1 (familyBit (h .«router_ip» .afi)) 0
+        → o1 ≡ putAt out 0 (frontBytes (h .«header_len») (h .«msg_len») flags) → o2 ≡ putAt o1 14 (timeBytes (h .seconds) (h .microseconds))
+        → o3 ≡ putAt o2 38 (restBytes (h .«router_ip» .octets) admin group) → o3 ≡ sets out 0 (bytesOf h b)
+    put-written flags out o1 o2 o3 sixteen room known e1 e2 e3 =
+        put-header h admin group flags out o1 o2 o3 sixteen room known e1 e2 e3
+        ∙ ap (sets out 0) ((λ i. allBytes h (admin-is i) (group-is i)) ∙ sym (bytes-are e))

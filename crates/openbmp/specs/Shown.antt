@@ -1,5 +1,5 @@
 -- How a reading is shown in the answer, and what a refusal shows.
-use Prim.Native.Nat.{ℕ, _+_}
+use Prim.Native.Nat.{_+_}
 use mathlib.Core.List.{_++_}
 use lib.ListN.{replicate}
 use lib.Ieee.{binary64, ofBits}

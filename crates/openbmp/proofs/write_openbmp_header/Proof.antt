@@ -6,13 +6,12 @@ use mathlib.Core.Path.{_≡_, sym, ap, _∙_, subst}
 use mathlib.Core.Bool.{Bool, true}
 use Prim.Native.Nat.{ℕ, _+_, _≤_}
 use lib.ListN.{length}
-use lib.Seq.{sets}
 use Rattle.layout.proofs.Octets.{array-bytes}
 use Rattle.writing.specs.Write.{writeAnswer}
 use Rattle.writing.proofs.Answers.{answered, left-alone, wrote, put-there, refused-so}
-use Rattle.openbmp.specs.Write.{bytesOf, writable, frontBytes, timeBytes, allBytes, Typed}
+use Rattle.openbmp.specs.Write.{bytesOf, writable, frontBytes, timeBytes, Typed}
 use Rattle.writing.proofs.Sets.{length-put}
-use Rattle.openbmp.proofs.Written.{put-header, viewed-long, Writable, writable-is, bytes-are, length-written}
+use Rattle.openbmp.proofs.Written.{Writable, writable-is, length-written, lengths-are, put-written}
 use Rattle.openbmp.proofs.write_openbmp_header.Statement.{statement}
 use Rattle.openbmp.proofs.write_openbmp_header.Tie as tie
 
@@ -54,11 +53,8 @@ after-time c =
     ap length (c .put-time .ensures) ∙ length-put (c .before .before .before .before .put-front .last .1 .1 .1 .0) 14 (timeBytes (c .before .before .before .before .before .before .before .before .before .before .before .before .before .before .before .before .before .before .before .before .args .header .seconds) (c .before .before .before .before .before .before .before .before .before .before .before .before .before .before .before .before .before .before .before .before .args .header .microseconds))
     ∙ after-front (c .before .before .before .before)
 
-admin-long : (c : tie.After-part) → length (now (c .part .result)) ≡ c .before .before .before .before .before .before .before .before .before .before .before .before .before .before .before .before .before .before .before .before .before .before .before .args .header .«admin_id» .length
-admin-long c = ap length (c .part .ensures) ∙ viewed-long (now (c .before .before .before .before .before .before .before .before .before .before .before .before .before .before .before .before .before .before .before .before .before .before .before .args .buffer)) (c .before .before .before .before .before .before .before .before .before .before .before .before .before .before .before .before .before .before .before .before .before .before .before .args .header .«admin_id») (short (c .before .before .before .before .before .before .before .before .before .before .before .before .before .before .before .before .before .before .before) .admin-inside)
-
-group-long : (c : tie.After-part2) → length (now (c .part2 .result)) ≡ c .before .before .before .before .before .before .before .before .before .before .before .before .before .before .before .before .before .before .before .before .before .before .before .before .args .header .«router_group» .length
-group-long c = ap length (c .part2 .ensures) ∙ viewed-long (now (c .before .before .before .before .before .before .before .before .before .before .before .before .before .before .before .before .before .before .before .before .before .before .before .before .args .buffer)) (c .before .before .before .before .before .before .before .before .before .before .before .before .before .before .before .before .before .before .before .before .before .before .before .before .args .header .«router_group») (short (c .before .before .before .before .before .before .before .before .before .before .before .before .before .before .before .before .before .before .before .before) .group-inside)
+lengths : (c : tie.After-part2) → (length (now (c .before .part .result)) ≡ c .before .before .before .before .before .before .before .before .before .before .before .before .before .before .before .before .before .before .before .before .before .before .before .before .args .header .«admin_id» .length) × (length (now (c .part2 .result)) ≡ c .before .before .before .before .before .before .before .before .before .before .before .before .before .before .before .before .before .before .before .before .before .before .before .before .args .header .«router_group» .length)
+lengths c = lengths-are (c .before .before .before .before .before .before .before .before .before .before .before .before .before .before .before .before .before .before .before .before .before .before .before .before .args .header) (now (c .before .before .before .before .before .before .before .before .before .before .before .before .before .before .before .before .before .before .before .before .before .before .before .before .args .buffer)) (okay (c .before .before .before .before .before .before .before .before .before .before .before .before .before .before .before .before .before .before .before .before)) _ _ (c .before .part .ensures) (c .part2 .ensures)
 
 is-writable-requires : tie.Need-is-writable-requires
 is-writable-requires c κs = search needs
@@ -110,10 +106,9 @@ put-rest-requires : tie.Need-put-rest-requires
 put-rest-requires c κs =
     let r = room (c .before .before .before .before .before .before .before .before .before .before .before .before .before .before) in
     let w = short (c .before .before .before .before .before .before .before .before .before .before .before .before .before .before .before .before .before .before .before .before .before) in
-    let a = admin-long (c .before .before) in
-    let g = group-long (c .before) in (
-      omega (arith, w .admin-short),
-      (omega (arith, w .group-short), subst (λ (k : ℕ). 78 + length (now (c .before .before .part .result)) + length (now (c .before .part2 .result)) ≤ k) (sym (after-time (c .before .before .before .before .before))) (omega arith)),
+    let n = lengths (c .before) in (
+      omega (arith, w .admin-short, n .0),
+      (omega (arith, w .group-short, n .1), subst (λ (k : ℕ). 78 + length (now (c .before .before .part .result)) + length (now (c .before .part2 .result)) ≤ k) (sym (after-time (c .before .before .before .before .before))) (omega (arith, r, n .0, n .1))),
     )
 
 same-length : tie.Need-same-length
@@ -125,12 +120,10 @@ returns-3 c =
     let b = now (c .before .before .before .before .before .before .before .before .before .before .before .before .before .before .before .before .before .before .before .before .before .before .before .before .before .before .before .before .args .buffer) in
     let s = bytesOf h b in
     let r = room (c .before .before .before .before .before .before .before .before .before .before .before .before .before .before .before .before .before) in
-    let a = admin-long (c .before .before .before .before .before) in
-    let g = group-long (c .before .before .before .before) in
-    let all = put-header h (now (c .before .before .before .before .before .part .result)) (now (c .before .before .before .before .part2 .result)) (c .before .before .before .before .before .before .before .before .before .before .before .before .before .before .flags-of .result) (now (c .before .before .before .before .before .before .before .before .before .before .before .before .before .before .before .before .before .before .before .before .before .before .before .before .before .before .before .before .args .out)) _ _ _ (typed (c .before .before .before .before .before .before .before .before .before .before .before .before .before .before .before .before .before .before .before .before .before .before .before .before .before .before .before .before) .octets .0) (omega arith)
-    (c .before .before .before .before .before .before .before .before .before .before .before .before .before .before .flags-of .ensures) (c .before .before .before .before .before .before .before .before .before .before .before .before .put-front .ensures) (c .before .before .before .before .before .before .before .before .put-time .ensures) (c .before .before .put-rest .ensures) in
-    let same = (λ i. allBytes h (c .before .before .before .before .before .part .ensures i) (c .before .before .before .before .part2 .ensures i)) ∙ sym (bytes-are h b (okay (c .before .before .before .before .before .before .before .before .before .before .before .before .before .before .before .before .before .before .before .before .before .before .before .before))) in
-    (answered _ s (now (c .before .before .before .before .before .before .before .before .before .before .before .before .before .before .before .before .before .before .before .before .before .before .before .before .before .before .before .before .args .out)) _ (long (c .before .before .before .before .before .before .before .before .before .before .before .before .before .before .before .before .before .before .before .before .before .before .before .before)) _ (asked (c .before .before .before .before .before .before .before .before .before .before .before .before .before .before .before .before .before .before .before)), put-there _ s (now (c .before .before .before .before .before .before .before .before .before .before .before .before .before .before .before .before .before .before .before .before .before .before .before .before .before .before .before .before .args .out)) _ (long (c .before .before .before .before .before .before .before .before .before .before .before .before .before .before .before .before .before .before .before .before .before .before .before .before)) _ (asked (c .before .before .before .before .before .before .before .before .before .before .before .before .before .before .before .before .before .before .before)) _ (c .before .before .before .before .before .before .before .before .before .before .before .before .before .before .before .before .before .enum-told .given .1) _ (all ∙ ap (sets (now (c .before .before .before .before .before .before .before .before .before .before .before .before .before .before .before .before .before .before .before .before .before .before .before .before .before .before .before .before .args .out)) 0) same))
+    let n = lengths (c .before .before .before .before) in
+    let all = put-written h b (okay (c .before .before .before .before .before .before .before .before .before .before .before .before .before .before .before .before .before .before .before .before .before .before .before .before)) _ _ (c .before .before .before .before .before .part .ensures) (c .before .before .before .before .part2 .ensures) (c .before .before .before .before .before .before .before .before .before .before .before .before .before .before .flags-of .result) (now (c .before .before .before .before .before .before .before .before .before .before .before .before .before .before .before .before .before .before .before .before .before .before .before .before .before .before .before .before .args .out)) _ _ _
+    (typed (c .before .before .before .before .before .before .before .before .before .before .before .before .before .before .before .before .before .before .before .before .before .before .before .before .before .before .before .before) .octets .0) (omega (arith, r, n .0, n .1)) (c .before .before .before .before .before .before .before .before .before .before .before .before .before .before .flags-of .ensures) (c .before .before .before .before .before .before .before .before .before .before .before .before .put-front .ensures) (c .before .before .before .before .before .before .before .before .put-time .ensures) (c .before .before .put-rest .ensures) in
+    (answered _ s (now (c .before .before .before .before .before .before .before .before .before .before .before .before .before .before .before .before .before .before .before .before .before .before .before .before .before .before .before .before .args .out)) _ (long (c .before .before .before .before .before .before .before .before .before .before .before .before .before .before .before .before .before .before .before .before .before .before .before .before)) _ (asked (c .before .before .before .before .before .before .before .before .before .before .before .before .before .before .before .before .before .before .before)), put-there _ s (now (c .before .before .before .before .before .before .before .before .before .before .before .before .before .before .before .before .before .before .before .before .before .before .before .before .before .before .before .before .args .out)) _ (long (c .before .before .before .before .before .before .before .before .before .before .before .before .before .before .before .before .before .before .before .before .before .before .before .before)) _ (asked (c .before .before .before .before .before .before .before .before .before .before .before .before .before .before .before .before .before .before .before)) _ (c .before .before .before .before .before .before .before .before .before .before .before .before .before .before .before .before .before .enum-told .given .1) _ all)
 
 pub write-openbmp-header-spec : {M : Type 1} → statement M
 write-openbmp-header-spec =
