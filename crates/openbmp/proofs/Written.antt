@@ -19,7 +19,7 @@ use Rattle.models.specs.declared.IpAddr.{IpAddr}
 use Rattle.models.proofs.Promises.{equals-is-equality}
 use Rattle.openbmp.specs.Grammar.{RouterIp, ipv4, ipv6, routerIpBytes, flagsOf}
 use Rattle.openbmp.specs.Shown.{shownIp}
-use Rattle.openbmp.specs.Write.{familyBit, ipOf, blankIp, bytesOf, fixedFits, timeFits, ipFits, viewFits, writable, frontBytes, timeBytes, counted, restBytes, allBytes}
+use Rattle.openbmp.specs.Write.{familyBit, ipOf, blankIp, bytesOf, fixedFits, timeFits, ipFits, viewFits, writable, frontBytes, timeBytes, counted, restBytes}
 use Rattle.openbmp.specs.declared.OpenBmpHeader.{OpenBmpHeader}
 
 -- ---- one put after the other
@@ -97,8 +97,14 @@ module _ (octets admin group : List ℕ) where
       let q2 = put-then o1 o2 o5 (40 + a) (56 + a) (replicate 16 0) b3 (omega arith) e2 (omega arith) q3 in
       put-then out o1 o5 38 (40 + a) (counted admin) (replicate 16 0 ++ b3) (omega arith) e1 (omega arith) q2
 
+-- all of a header's bytes
+abbrev allBytes : OpenBmpHeader → List ℕ → List ℕ → List ℕ
+allBytes h admin group =
+    frontBytes (h .«header_len») (h .«msg_len») (flagsOf 1 (familyBit (h .«router_ip» .afi)) 0)
+    ++ (timeBytes (h .seconds) (h .microseconds) ++ restBytes (h .«router_ip» .octets) admin group)
+
 module _ (h : OpenBmpHeader) (admin group : List ℕ) where
-  pub length-all : length (h .«router_ip» .octets) ≡ 16 → length (allBytes h admin group) ≡ 78 + length admin + length group
+  length-all : length (h .«router_ip» .octets) ≡ 16 → length (allBytes h admin group) ≡ 78 + length admin + length group
   unfolding be
   length-all sixteen = omega (arith, length-rest (h .«router_ip» .octets) admin group sixteen)
 

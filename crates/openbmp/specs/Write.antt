@@ -14,7 +14,7 @@ use Rattle.models.specs.Time.{isTimestamp}
 use Rattle.models.specs.declared.Afi.{Afi}
 use Rattle.models.specs.declared.Afi.the-variants.{Ipv4, Ipv6}
 use Rattle.models.specs.declared.IpAddr.{IpAddr}
-use Rattle.openbmp.specs.Grammar.{RouterIp, ipv4, ipv6, Reading, flagsOf, join, Exactly}
+use Rattle.openbmp.specs.Grammar.{RouterIp, ipv4, ipv6, Reading, join, Exactly}
 use Rattle.openbmp.specs.Shown.{shownIp}
 use Rattle.openbmp.specs.Read.{routerIpOf}
 use Rattle.openbmp.specs.declared.OpenBmpHeader.{OpenBmpHeader}
@@ -61,6 +61,7 @@ abbrev pub bytesOf : OpenBmpHeader → List ℕ → List ℕ
 bytesOf h b = join (readingOf h b)
 
 -- ---- what is writable
+-- Versions and object type are the fixed ones.
 abbrev pub fixedFits : ℕ → ℕ → ℕ → Bool
 fixedFits major minor kind = eqb major 1 && (eqb minor 7 && eqb kind 12)
 
@@ -95,11 +96,6 @@ counted l = be 2 (length l) ++ l
 
 abbrev pub restBytes : List ℕ → List ℕ → List ℕ → List ℕ
 restBytes octets admin group = counted admin ++ (replicate 16 0 ++ (octets ++ (counted group ++ be 4 1)))
-
-abbrev pub allBytes : OpenBmpHeader → List ℕ → List ℕ → List ℕ
-allBytes h admin group =
-    frontBytes (h .«header_len») (h .«msg_len») (flagsOf 1 (familyBit (h .«router_ip» .afi)) 0)
-    ++ (timeBytes (h .seconds) (h .microseconds) ++ restBytes (h .«router_ip» .octets) admin group)
 
 -- what the types of its fields say of every header
 pub record Typed (h : OpenBmpHeader) : Type 0 where
