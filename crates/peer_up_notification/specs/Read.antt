@@ -1,0 +1,99 @@
+-- What the reader answers, for every input.
+use Prim.Native.Nat.{ℕ, _+_, _-_}
+use mathlib.Core.List.{List, map}
+use lib.ListN.{length, take, drop}
+use lib.Dec.{ltb}
+use Rattle.wire.specs.Number as Number
+use Rattle.wire.specs.Bytes.{pick, numAt, numberAt}
+use Rattle.wire.specs.Read.{refusal, cutAt, cursor}
+use Rattle.wire.specs.View.{view}
+use Rattle.wire.specs.Tlv.{Tlv, sizeOf}
+use Rattle.wire.specs.TlvAt.{tlvOf}
+use Rattle.wire.specs.Walk as Walk
+use Rattle.wire.specs.Walk.{stop, bad, item, from, Kit, Out, good, refused, readFrom}
+use Rattle.wire.specs.declared.View.{View}
+use Rattle.layout.specs.Layout.{cutIn, sixteenAt}
+use Rattle.models.specs.declared.Afi.{Afi}
+use Rattle.models.specs.declared.IpAddr.{IpAddr}
+use Rattle.peer.specs.declared.BmpPeerType.{BmpPeerType}
+use Rattle.peer_up_notification.specs.Grammar.{widths, skippedFor}
+use Rattle.peer_up_notification.specs.Warnings.{Head, warningsOf}
+use Rattle.peer_up_notification.specs.Shown.{kindOf, places, entry, zeroTlv, sentAt, shownAddress, messageOf, goodAnswer, refusedAnswer}
+use Rattle.peer_up_notification.specs.declared.PeerUpNotificationTlv.{PeerUpNotificationTlv}
+use Rattle.peer_up_notification.specs.declared.PeerUpAnswer.{PeerUpAnswer}
+use Rattle.peer_up_notification.specs.declared.Front.{Front}
+use Rattle.peer_up_notification.specs.declared.Open.{Open}
+use Rattle.peer_up_notification.specs.declared.Open.the-variants.{Broken, Found}
+use Rattle.peer_up_notification.specs.declared.Step.{Step}
+use Rattle.peer_up_notification.specs.declared.Step.the-variants.{Stop, Bad, Whole}
+
+-- ---- what stands before the TLVs
+-- the sixteen octets of the address field, as they are shown
+abbrev pub localAddress : Afi → List ℕ → IpAddr
+localAddress afi octets = shownAddress afi (drop (skippedFor afi) octets)
+
+-- a whole BGP message at a place, whose own length is judged before how much is left of it
+unfoldable pub openAt : List ℕ → ℕ → Open
+openAt s at =
+    pick (ltb (length s - at) 19) (Broken (cutAt at))
+    (pick (ltb (numAt 2 s (at + 16)) 19) (Broken (refusal Number.BgpLength (at + 16)))
+    (pick (ltb (length s - at) (numAt 2 s (at + 16))) (Broken (cutAt at))
+    (Found (view at (numAt 2 s (at + 16))) (cursor (at + numAt 2 s (at + 16))))))
+
+abbrev pub frontOf : Afi → List ℕ → View → View → Front
+frontOf afi s sent received =
+    record {
+      «local_addr» = localAddress afi (sixteenAt s 0);
+      «local_port» = numberAt 2 s 16;
+      «remote_port» = numberAt 2 s 18;
+      «sent_open» = sent;
+      «received_open» = received;
+    }
+
+-- ---- the TLVs
+-- while at least 4 bytes are left: a TLV, whose value is Cut where it is not all there
+unfoldable pub step : List ℕ → Walk.Step Tlv
+step s =
+    pick (ltb (length s) 4) stop
+    (pick (ltb (length s - 4) (numAt 2 s 2)) (bad (cutAt 4)) (item (tlvOf s)))
+
+abbrev pub kit : Kit
+kit = record { Item = Tlv; Entry = PeerUpNotificationTlv; step = step; size = sizeOf; entry = entry; none = zeroTlv; limit = places }
+
+-- one step at a place, as the code answers it: the stop, the fault, or the entry and the cursor past it
+abbrev pub told : ℕ → Walk.Step Tlv → Step
+told at stop = Stop at
+told at (bad r) = Bad (from at r)
+told at (item t) = Whole (entry at t) (cursor (at + sizeOf t))
+
+abbrev pub stepAt : List ℕ → ℕ → Step
+stepAt s at = told at (step (drop at s))
+
+-- the warnings of a table's entries
+abbrev pub headIn : PeerUpNotificationTlv → Head
+headIn t = (kindOf (t .«info_type»), t .«info_len»)
+
+abbrev pub headsIn : List PeerUpNotificationTlv → List Head
+headsIn l = map headIn l
+
+abbrev pub warningsIn : BmpPeerType → List PeerUpNotificationTlv → ℕ
+warningsIn peer l = warningsOf peer (headsIn l)
+
+-- ---- one after the other
+abbrev pub withTlvs : BmpPeerType → Front → Out PeerUpNotificationTlv → PeerUpAnswer
+withTlvs peer f (good n at table z) = goodAnswer at (warningsIn peer (take n table)) (messageOf f n table)
+withTlvs peer f (refused r) = refusedAnswer r
+
+abbrev pub withReceived : Afi → BmpPeerType → List ℕ → View → Open → PeerUpAnswer
+withReceived afi peer s sent (Broken r) = refusedAnswer r
+withReceived afi peer s sent (Found received next) = withTlvs peer (frontOf afi s sent received) (readFrom kit (length s) (next .at) s)
+
+abbrev pub withSent : Afi → BmpPeerType → List ℕ → Open → PeerUpAnswer
+withSent afi peer s (Broken r) = refusedAnswer r
+withSent afi peer s (Found sent next) = withReceived afi peer s sent (openAt s (next .at))
+
+abbrev pub readPeerUp : Afi → BmpPeerType → List ℕ → PeerUpAnswer
+readPeerUp afi peer s =
+    pick (ltb Number.limit (length s)) (refusedAnswer (refusal Number.TooLong 0))
+    (pick (ltb (length s) sentAt) (refusedAnswer (cutIn widths 0 (length s)))
+    (withSent afi peer s (openAt s sentAt)))

@@ -1,0 +1,116 @@
+-- How a reading is shown in the answer, and what a refusal shows. Nothing here takes an input apart.
+use Prim.Native.Nat.{ℕ, _+_, _-_, _≤_}
+use mathlib.Core.List.{List, [], _∷_, _++_}
+use lib.ListN.{length, replicate, getD}
+use Rattle.wire.specs.Read.{noRefusal}
+use Rattle.wire.specs.View.{view}
+use Rattle.wire.specs.Parts.{shownFrom, endFrom}
+use Rattle.wire.specs.Tlv.{Tlv, sizeOf}
+use Rattle.wire.specs.declared.Refusal.{Refusal}
+use Rattle.models.specs.Address.{unspecified}
+use Rattle.models.specs.declared.Afi.{Afi}
+use Rattle.models.specs.declared.IpAddr.{IpAddr}
+use Rattle.peer.specs.declared.BmpPeerType.{BmpPeerType}
+use Rattle.peer_up_notification.specs.Grammar.{skippedFor, Reading}
+use Rattle.peer_up_notification.specs.Warnings.{warnings}
+use Rattle.peer_up_notification.specs.declared.PeerUpTlvType.{PeerUpTlvType}
+use Rattle.peer_up_notification.specs.declared.PeerUpTlvType.the-variants.{String, SysDescr, SysName, VrTableName, AdminLabel, Unknown}
+use Rattle.peer_up_notification.specs.declared.PeerUpNotificationTlv.{PeerUpNotificationTlv}
+use Rattle.peer_up_notification.specs.declared.PeerUpNotification.{PeerUpNotification}
+use Rattle.peer_up_notification.specs.declared.PeerUpAnswer.{PeerUpAnswer}
+use Rattle.peer_up_notification.specs.declared.Front.{Front}
+
+-- types 0 to 4 have names: 1 and 2 are those of the Initiation message, which shared its numbers with Peer Up before RFC 9736
+abbrev pub names : List PeerUpTlvType
+names = String ∷ SysDescr ∷ SysName ∷ VrTableName ∷ AdminLabel ∷ []
+
+unfoldable pub typeOf : ℕ → PeerUpTlvType
+typeOf n = getD names n (Unknown n)
+
+unfoldable pub kindOf : PeerUpTlvType → ℕ
+kindOf String = 0
+kindOf SysDescr = 1
+kindOf SysName = 2
+kindOf VrTableName = 3
+kindOf AdminLabel = 4
+kindOf (Unknown n) = n
+
+abbrev pub zeroTlv : PeerUpNotificationTlv
+zeroTlv = record { «info_type» = String; «info_len» = 0; «info_value» = view 0 0 }
+
+-- the table has 32 entries
+abbrev pub places : ℕ
+places = 32
+
+unfoldable pub zeroTable : List PeerUpNotificationTlv
+zeroTable = replicate places zeroTlv
+
+-- a TLV as the table shows it, where it starts at a place
+abbrev pub entry : ℕ → Tlv → PeerUpNotificationTlv
+entry at t = record { «info_type» = typeOf (t .kind); «info_len» = t .size; «info_value» = view (at + 4) (t .size) }
+
+-- an address with zeros before it, where bytes are skipped
+abbrev pub shownAddress : Afi → List ℕ → IpAddr
+shownAddress afi address = record { octets = replicate (skippedFor afi) 0 ++ address; afi = afi }
+
+-- where the messages and the TLVs start
+abbrev pub sentAt : ℕ
+sentAt = 20
+
+abbrev pub receivedAt : Reading → ℕ
+receivedAt r = sentAt + r .sentOpen .size
+
+abbrev pub tlvsAt : Reading → ℕ
+tlvsAt r = receivedAt r + r .receivedOpen .size
+
+-- what stands before the TLVs
+abbrev pub shownFront : Afi → Reading → Front
+shownFront afi r =
+    record {
+      «local_addr» = shownAddress afi (r .address);
+      «local_port» = r .localPort;
+      «remote_port» = r .remotePort;
+      «sent_open» = view sentAt (r .sentOpen .size);
+      «received_open» = view (receivedAt r) (r .receivedOpen .size);
+    }
+
+-- a message of what stands before the TLVs, and a table of them with their count
+abbrev pub messageOf : Front → ℕ → List PeerUpNotificationTlv → PeerUpNotification
+messageOf f count table =
+    record {
+      «local_addr» = f .«local_addr»;
+      «local_port» = f .«local_port»;
+      «remote_port» = f .«remote_port»;
+      «sent_open» = f .«sent_open»;
+      «received_open» = f .«received_open»;
+      tlvs = table;
+      count = count;
+    }
+
+abbrev pub goodAnswer : ℕ → ℕ → PeerUpNotification → PeerUpAnswer
+goodAnswer end word message = record { refusal = noRefusal; stop = end; warnings = word; message = message }
+
+-- a refusal shows nothing: every number is zero, and the address is IPv4
+abbrev pub zeroFront : Front
+zeroFront =
+    record {
+      «local_addr» = unspecified;
+      «local_port» = 0;
+      «remote_port» = 0;
+      «sent_open» = view 0 0;
+      «received_open» = view 0 0;
+    }
+
+abbrev pub refusedAnswer : Refusal → PeerUpAnswer
+refusedAnswer r = record { refusal = r; stop = 0; warnings = 0; message = messageOf zeroFront 0 zeroTable }
+
+-- a reading fits the table
+abbrev pub Fits : Reading → Type 0
+Fits r = length (r .tlvs) ≤ places
+
+-- the good answer: the TLVs in order, entries past the count zero, the stop where the last TLV ends and the tail starts
+abbrev pub shown : Afi → BmpPeerType → Reading → PeerUpAnswer
+shown afi peer r =
+    goodAnswer (endFrom sizeOf (tlvsAt r) (r .tlvs)) (warnings peer r)
+    (messageOf (shownFront afi r) (length (r .tlvs))
+    (shownFrom sizeOf entry (tlvsAt r) (r .tlvs) ++ replicate (places - length (r .tlvs)) zeroTlv))

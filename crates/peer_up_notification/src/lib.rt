@@ -1,0 +1,566 @@
+// The body of a BMP Peer Up notification (RFC 7854, section 4.10), behind the per-peer header.
+use models::Afi;
+use models::IpAddr;
+use peer::BmpPeerType;
+use wire::Cursor;
+use wire::ReadU16;
+use wire::Refusal;
+use wire::View;
+use writing::WriteAnswer;
+ghost use mathlib.Core.Path.{_≡_};
+ghost use mathlib.Core.Bool.{true, not, _||_};
+ghost use Prim.Native.Nat.{_+_, _^_, _≤_, _<_};
+ghost use lib.Dec.{eqb, ltb};
+ghost use lib.ListN.{length, take};
+ghost use lib.Seq.{sets};
+ghost use Rattle.wire.specs.Bytes.{pick};
+ghost use Rattle.wire.specs.Read.{refusal};
+ghost use Rattle.wire.specs.Walk.{readFrom};
+ghost use Rattle.layout.specs.Layout.{cutIn};
+ghost use Rattle.writing.specs.Write.{putAt, writeAnswer, written};
+ghost use Rattle.writing.specs.Table.{sizes};
+ghost use Rattle.peer_up_notification.specs.Grammar.{widths};
+ghost use Rattle.peer_up_notification.specs.Warnings.{heardOf, namesOf};
+ghost use Rattle.peer_up_notification.specs.Shown.{typeOf, kindOf, zeroTlv, messageOf, goodAnswer, refusedAnswer};
+ghost use Rattle.peer_up_notification.specs.Read.{localAddress, openAt, frontOf, stepAt, kit, headIn, headsIn, warningsIn, withTlvs, withReceived, readPeerUp};
+ghost use Rattle.peer_up_notification.specs.Write.{addressWritable, openWritable, tlvWritable, writer, oneTlv, kept, bytesOf, tlvsWritable, writable, frontBytes, frontLength};
+
+// 1 and 2 are the names of an Initiation message, whose numbers Peer Up shared before RFC 9736.
+pub enum PeerUpTlvType {
+    String,
+    SysDescr,
+    SysName,
+    VrTableName,
+    AdminLabel,
+    Unknown(u16),
+}
+
+pub struct PeerUpNotificationTlv {
+    pub info_type: PeerUpTlvType,
+    pub info_len: u16,
+    pub info_value: View,
+}
+
+pub struct PeerUpNotification {
+    pub local_addr: IpAddr,
+    pub local_port: u16,
+    pub remote_port: u16,
+    pub sent_open: View,
+    pub received_open: View,
+    pub tlvs: [PeerUpNotificationTlv; 32],
+    pub count: usize,
+}
+
+// The tail starts at the stop: the walk reads no TLV that it does not keep.
+pub struct PeerUpAnswer {
+    pub refusal: Refusal,
+    pub stop: usize,
+    pub warnings: u32,
+    pub message: PeerUpNotification,
+}
+
+// Warnings are bits of one word (docs/RULES.md, "Warnings"): the name of a Loc-RIB's table is empty or too long, and it is not told.
+const BAD_TABLE_NAME: u32 = 8;
+
+const NO_TABLE_NAME: u32 = 16;
+
+// What stands before the TLVs.
+struct Front {
+    local_addr: IpAddr,
+    local_port: u16,
+    remote_port: u16,
+    sent_open: View,
+    received_open: View,
+}
+
+// What stands at the place of a BGP message: a fault, or the message and the cursor past it.
+enum Open {
+    Broken(Refusal),
+    Found(View, Cursor),
+}
+
+// What stands at a place of the walk: its end with the stop place, a fault, or a TLV and the cursor past it.
+enum Step {
+    Stop(usize),
+    Bad(Refusal),
+    Whole(PeerUpNotificationTlv, Cursor),
+}
+
+// What TLVs say of a table's name: that there is one, and that one has a bad length.
+struct TableNames {
+    some: bool,
+    bad: bool,
+}
+
+pub fn parse_peer_up_notification(s: &[u8], afi: Afi, peer_type: BmpPeerType) -> PeerUpAnswer
+    ensures { λ r. ⌜ r ≡ readPeerUp afi «peer_type» (now (s .entry)) ⌝ }
+{
+    if wire::LIMIT < s.len() {
+        return refused(refusal_at(wire::TOO_LONG, 0));
+    }
+    if s.len() < 20 {
+        return refused(cut(s.len()));
+    }
+    match open_at(s, 20) {
+        Open::Broken(refusal) => refused(refusal),
+        Open::Found(sent_open, next) => read_received(s, afi, peer_type, sent_open, next),
+    }
+}
+
+// An address of 16 bytes is one field.
+fn cut(length: usize) -> Refusal
+    ensures { λ r. ⌜ r ≡ cutIn widths 0 length ⌝ }
+{
+    let widths = [16usize, 2, 2];
+    layout::cut_in(&widths, 0, length)
+}
+
+// A whole BGP message; that it has a BGP header is judged before how much is left of it.
+fn open_at(s: &[u8], at: usize) -> Open
+    ensures { λ r. ⌜ r ≡ openAt (now (s .entry)) at ⌝ }
+{
+    let left = wire::left(s, at);
+    if left < 19 {
+        return Open::Broken(wire::cut_at(at));
+    }
+    let size = wire::u16_at(s, at + 16);
+    if size < 19 {
+        return Open::Broken(refusal_at(wire::BGP_LENGTH, at + 16));
+    }
+    if left < (size as usize) {
+        return Open::Broken(wire::cut_at(at));
+    }
+    let view = View {
+        place: at,
+        length: size as usize,
+    };
+    Open::Found(
+        view,
+        Cursor {
+            at: at + (size as usize),
+        },
+    )
+}
+
+fn read_received(
+    s: &[u8],
+    afi: Afi,
+    peer_type: BmpPeerType,
+    sent_open: View,
+    start: Cursor,
+) -> PeerUpAnswer
+    ensures { λ r. ⌜ r ≡ withReceived afi «peer_type» (now (s .entry)) «sent_open» (openAt (now (s .entry)) (start .at)) ⌝ }
+{
+    match open_at(s, start.at) {
+        Open::Broken(refusal) => refused(refusal),
+        Open::Found(received_open, next) => {
+            read_tlvs(s, peer_type, front_of(s, afi, sent_open, received_open), next)
+        }
+    }
+}
+
+fn front_of(s: &[u8], afi: Afi, sent_open: View, received_open: View) -> Front
+    ensures { λ r. ⌜ r ≡ frontOf afi (now (s .entry)) «sent_open» «received_open» ⌝ }
+{
+    let octets = layout::sixteen_at(s, 0);
+    Front {
+        local_addr: local_address(afi, octets),
+        local_port: wire::u16_at(s, 16),
+        remote_port: wire::u16_at(s, 18),
+        sent_open: sent_open,
+        received_open: received_open,
+    }
+}
+
+// The one place where the sixteen bytes of the field become the address that is shown.
+fn local_address(afi: Afi, octets: [u8; 16]) -> IpAddr
+    ensures { λ r. ⌜ r ≡ localAddress afi octets ⌝ }
+{
+    match afi {
+        Afi::Ipv4 => IpAddr {
+            octets: layout::last_four(octets),
+            afi: Afi::Ipv4,
+        },
+        Afi::Ipv6 => IpAddr {
+            octets: octets,
+            afi: Afi::Ipv6,
+        },
+    }
+}
+
+fn read_tlvs(s: &[u8], peer_type: BmpPeerType, front: Front, start: Cursor) -> PeerUpAnswer
+    requires { ⌜ start .at ≤ length (now s) ⌝ }
+    ensures { λ r. ⌜ r ≡ withTlvs «peer_type» front (readFrom kit (length (now (s .entry))) (start .at) (now (s .entry))) ⌝ }
+{
+    let zero = zero_tlv();
+    let mut tlvs = [zero; 32];
+    let mut count: usize = 0;
+    let mut at = start.at;
+    let stop = loop {
+        match step_at(s, at) {
+            Step::Stop(place) => break place,
+            Step::Bad(refusal) => return refused(refusal),
+            Step::Whole(tlv, next) => {
+                if 32 <= count {
+                    return refused(refusal_at(wire::TOO_MANY, at));
+                }
+                tlvs[count] = tlv;
+                count += 1;
+                at = next.at;
+            }
+        }
+    };
+    accepted(peer_type, front, stop, tlvs, count)
+}
+
+// Only Peer Up reads a TLV where exactly 4 bytes are left: it is one of length 0.
+fn step_at(s: &[u8], at: usize) -> Step
+    ensures { λ r. ⌜ r ≡ stepAt (now (s .entry)) at ⌝ }
+{
+    if wire::left(s, at) < 4 {
+        return Step::Stop(at);
+    }
+    let start = Cursor { at: at };
+    let ReadU16::Good(kind, after_kind) = start.read_u16(s) else {
+        return Step::Stop(at);
+    };
+    let ReadU16::Good(size, after_size) = after_kind.read_u16(s) else {
+        return Step::Stop(at);
+    };
+    let place = after_size.at;
+    if wire::left(s, place) < (size as usize) {
+        return Step::Bad(wire::cut_at(place));
+    }
+    let tlv = PeerUpNotificationTlv {
+        info_type: type_of(kind),
+        info_len: size,
+        info_value: View {
+            place: place,
+            length: size as usize,
+        },
+    };
+    Step::Whole(
+        tlv,
+        Cursor {
+            at: place + (size as usize),
+        },
+    )
+}
+
+fn type_of(kind: u16) -> PeerUpTlvType
+    ensures { λ r. ⌜ r ≡ typeOf kind ⌝ }
+{
+    match kind {
+        0 => PeerUpTlvType::String,
+        1 => PeerUpTlvType::SysDescr,
+        2 => PeerUpTlvType::SysName,
+        3 => PeerUpTlvType::VrTableName,
+        4 => PeerUpTlvType::AdminLabel,
+        _ => PeerUpTlvType::Unknown(kind),
+    }
+}
+
+fn accepted(
+    peer_type: BmpPeerType,
+    front: Front,
+    stop: usize,
+    tlvs: [PeerUpNotificationTlv; 32],
+    count: usize,
+) -> PeerUpAnswer
+    requires { ⌜ count ≤ 32 ⌝ }
+    ensures { λ r. ⌜ r ≡ goodAnswer stop (warningsIn «peer_type» (take count tlvs)) (messageOf front count tlvs) ⌝ }
+{
+    let local_addr = front.local_addr;
+    let sent_open = front.sent_open;
+    let received_open = front.received_open;
+    let message = PeerUpNotification {
+        local_addr: local_addr,
+        local_port: front.local_port,
+        remote_port: front.remote_port,
+        sent_open: sent_open,
+        received_open: received_open,
+        tlvs: tlvs,
+        count: count,
+    };
+    PeerUpAnswer {
+        refusal: refusal_at(wire::GOOD, 0),
+        stop: stop,
+        warnings: warnings_of(peer_type, message),
+        message: message,
+    }
+}
+
+fn warnings_of(peer_type: BmpPeerType, message: PeerUpNotification) -> u32
+    requires { ⌜ message .count ≤ 32 ⌝ }
+    ensures { λ r. ⌜ r ≡ warningsIn «peer_type» (kept message) ⌝ }
+{
+    if peer_type.number() != peer::LOCAL_RIB {
+        return 0;
+    }
+    let names = names_in(message);
+    word_of(names.bad, names.some)
+}
+
+fn word_of(bad: bool, some: bool) -> u32
+    ensures { λ r. ⌜ r ≡ pick bad 8 0 + pick (not some) 16 0 ⌝ }
+{
+    if bad {
+        if some {
+            BAD_TABLE_NAME
+        } else {
+            BAD_TABLE_NAME + NO_TABLE_NAME
+        }
+    } else {
+        if some { 0 } else { NO_TABLE_NAME }
+    }
+}
+
+fn names_in(message: PeerUpNotification) -> TableNames
+    requires { ⌜ message .count ≤ 32 ⌝ }
+    ensures { λ r. ⌜ r ≡ namesOf (headsIn (kept message)) ⌝ }
+{
+    let count = message.count;
+    let mut names = TableNames {
+        some: false,
+        bad: false,
+    };
+    let mut i: usize = 0;
+    while i < count {
+        let tlv = message.tlvs[i];
+        names = heard(names, tlv);
+        i += 1;
+    }
+    names
+}
+
+fn heard(names: TableNames, tlv: PeerUpNotificationTlv) -> TableNames
+    ensures { λ r. ⌜ r ≡ heardOf names (headIn tlv) ⌝ }
+{
+    let kind = tlv.info_type;
+    if kind_of(kind) != 3 {
+        return names;
+    }
+    TableNames {
+        some: true,
+        bad: names.bad || is_bad_length(tlv.info_len),
+    }
+}
+
+fn is_bad_length(size: u16) -> bool
+    ensures { λ r. ⌜ r ≡ eqb size 0 || ltb 255 size ⌝ }
+{
+    size == 0 || 255 < size
+}
+
+fn zero_tlv() -> PeerUpNotificationTlv
+    ensures { λ r. ⌜ r ≡ zeroTlv ⌝ }
+{
+    PeerUpNotificationTlv {
+        info_type: PeerUpTlvType::String,
+        info_len: 0,
+        info_value: View {
+            place: 0,
+            length: 0,
+        },
+    }
+}
+
+fn refused(refusal: Refusal) -> PeerUpAnswer
+    ensures { λ r. ⌜ r ≡ refusedAnswer refusal ⌝ }
+{
+    let zero = zero_tlv();
+    let none = View {
+        place: 0,
+        length: 0,
+    };
+    PeerUpAnswer {
+        refusal: refusal,
+        stop: 0,
+        warnings: 0,
+        message: PeerUpNotification {
+            local_addr: IpAddr::unspecified(),
+            local_port: 0,
+            remote_port: 0,
+            sent_open: none,
+            received_open: none,
+            tlvs: [zero; 32],
+            count: 0,
+        },
+    }
+}
+
+fn refusal_at(number: u8, place: usize) -> Refusal
+    ensures { λ r. ⌜ r ≡ refusal number place ⌝ }
+{
+    Refusal {
+        number: number,
+        place: place,
+    }
+}
+
+pub fn write_peer_up_notification(
+    message: PeerUpNotification,
+    buffer: &[u8],
+    out: &mut [u8],
+) -> WriteAnswer
+    ensures { λ r. ⌜ r ≡ writeAnswer (writable message (now (buffer .entry))) (length (bytesOf message (now (buffer .entry)))) (length (now (out .entry))) ⌝ }
+    ensures { λ _. ⌜ now (out .exit) ≡ written (writable message (now (buffer .entry))) (bytesOf message (now (buffer .entry))) (now (out .entry)) ⌝ }
+{
+    if !is_writable(message, buffer) {
+        return writing::write_answer(false, 0, out.len());
+    }
+    let answer = writing::write_answer(true, written_length(message), out.len());
+    let WriteAnswer::Written(_) = answer else {
+        return answer;
+    };
+    put_message(message, buffer, out);
+    answer
+}
+
+fn is_writable(message: PeerUpNotification, buffer: &[u8]) -> bool
+    ensures { λ r. ⌜ r ≡ writable message (now (buffer .entry)) ⌝ }
+{
+    let local_addr = message.local_addr;
+    let sent_open = message.sent_open;
+    let received_open = message.received_open;
+    if !address_writable(local_addr) {
+        return false;
+    }
+    if !open_writable(sent_open, buffer) {
+        return false;
+    }
+    if !open_writable(received_open, buffer) {
+        return false;
+    }
+    tlvs_writable(message, buffer.len())
+}
+
+fn address_writable(address: IpAddr) -> bool
+    ensures { λ r. ⌜ r ≡ addressWritable address ⌝ }
+{
+    let afi = address.afi;
+    let octets = address.octets;
+    local_address(afi, octets).equals(address)
+}
+
+// A view that lies outside shows nothing, so no length of its own.
+fn open_writable(view: View, buffer: &[u8]) -> bool
+    ensures { λ r. ⌜ r ≡ openWritable (now (buffer .entry)) view ⌝ }
+{
+    if !view.is_inside(buffer.len()) {
+        return false;
+    }
+    if view.length < 19 {
+        return false;
+    }
+    let part = view.part(buffer);
+    (wire::u16_at(part, 16) as usize) == view.length
+}
+
+fn tlvs_writable(message: PeerUpNotification, room: usize) -> bool
+    ensures { λ r. ⌜ r ≡ tlvsWritable message room ⌝ }
+{
+    let count = message.count;
+    if 32 < count {
+        return false;
+    }
+    let mut i: usize = 0;
+    while i < count {
+        let tlv = message.tlvs[i];
+        if !tlv_writable(tlv, room) {
+            return false;
+        }
+        i += 1;
+    }
+    true
+}
+
+fn tlv_writable(tlv: PeerUpNotificationTlv, room: usize) -> bool
+    ensures { λ r. ⌜ r ≡ tlvWritable room tlv ⌝ }
+{
+    let kind = tlv.info_type;
+    let view = tlv.info_value;
+    writing::tlv_fits(kind_of(kind), tlv.info_len, view, room)
+}
+
+fn written_length(message: PeerUpNotification) -> usize
+    requires { ⌜ message .count ≤ 32 ⌝ }
+    requires { ⌜ (message .«sent_open» .length < 256 ^ 2) × (message .«received_open» .length < 256 ^ 2) ⌝ }
+    ensures { λ r. ⌜ r ≡ frontLength message + sizes writer (kept message) ⌝ }
+{
+    let count = message.count;
+    let mut length: usize = 20 + (message.sent_open.length + message.received_open.length);
+    let mut i: usize = 0;
+    while i < count {
+        let tlv = message.tlvs[i];
+        length += tlv_length(tlv);
+        i += 1;
+    }
+    length
+}
+
+fn tlv_length(tlv: PeerUpNotificationTlv) -> usize
+    ensures { λ r. ⌜ (r ≡ 4 + tlv .«info_len») × (r ≤ 65539) ⌝ }
+{
+    let size = tlv.info_len;
+    4 + (size as usize)
+}
+
+fn put_message(message: PeerUpNotification, buffer: &[u8], out: &mut [u8])
+    requires { ⌜ writable message (now buffer) ≡ true ⌝ }
+    requires { ⌜ frontLength message + sizes writer (kept message) ≤ length (now out) ⌝ }
+    ensures { λ _. ⌜ now (out .exit) ≡ sets (now (out .entry)) 0 (bytesOf message (now (buffer .entry))) ⌝ }
+{
+    let count = message.count;
+    put_front(message, buffer, out);
+    let mut at: usize = 20 + (message.sent_open.length + message.received_open.length);
+    let mut i: usize = 0;
+    while i < count {
+        let tlv = message.tlvs[i];
+        put_tlv(out, at, tlv, buffer);
+        at += tlv_length(tlv);
+        i += 1;
+    }
+}
+
+// In a writable record the octets that are skipped on reading are zero, so all sixteen are put as they are.
+fn put_front(message: PeerUpNotification, buffer: &[u8], out: &mut [u8])
+    requires { ⌜ writable message (now buffer) ≡ true ⌝ }
+    requires { ⌜ frontLength message ≤ length (now out) ⌝ }
+    ensures { λ _. ⌜ now (out .exit) ≡ sets (now (out .entry)) 0 (frontBytes message (now (buffer .entry))) ⌝ }
+{
+    let local_addr = message.local_addr;
+    let octets = local_addr.octets;
+    let sent_open = message.sent_open;
+    let received_open = message.received_open;
+    writing::put_bytes(out, 0, &octets);
+    writing::put_u16(out, 16, message.local_port);
+    writing::put_u16(out, 18, message.remote_port);
+    let sent = sent_open.part(buffer);
+    writing::put_bytes(out, 20, sent);
+    let received = received_open.part(buffer);
+    writing::put_bytes(out, 20 + sent_open.length, received);
+}
+
+fn put_tlv(out: &mut [u8], at: usize, tlv: PeerUpNotificationTlv, buffer: &[u8])
+    ensures { λ _. ⌜ now (out .exit) ≡ putAt (now (out .entry)) at (oneTlv (now (buffer .entry)) tlv) ⌝ }
+{
+    let kind = tlv.info_type;
+    let view = tlv.info_value;
+    let part = view.part(buffer);
+    writing::put_tlv(out, at, kind_of(kind), tlv.info_len, part);
+}
+
+// The number that stands for a TLV's type on the wire.
+pub fn kind_of(kind: PeerUpTlvType) -> u16
+    ensures { λ r. ⌜ r ≡ kindOf kind ⌝ }
+{
+    match kind {
+        PeerUpTlvType::String => 0,
+        PeerUpTlvType::SysDescr => 1,
+        PeerUpTlvType::SysName => 2,
+        PeerUpTlvType::VrTableName => 3,
+        PeerUpTlvType::AdminLabel => 4,
+        PeerUpTlvType::Unknown(n) => n,
+    }
+}
