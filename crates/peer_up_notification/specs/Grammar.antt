@@ -37,9 +37,8 @@ pub record Message : Type 0 where
   pub size : ℕ
   pub rest : List ℕ
 
--- its bytes, and then r
-abbrev pub putMessage : Message → List ℕ → List ℕ
-putMessage m r = m .marker ++ (be 2 (m .size) ++ (m .rest ++ r))
+abbrev pub messageBytes : Message → List ℕ
+messageBytes m = m .marker ++ (be 2 (m .size) ++ m .rest)
 
 pub record GoodMessage (m : Message) : Type 0 where
   pub marker-long : length (m .marker) ≡ 16
@@ -67,7 +66,7 @@ joinTlvs r = joinAll putTlv (r .tlvs) (r .tail)
 abbrev pub join : Reading → List ℕ
 join r =
     r .skipped ++ (r .address ++ (be 2 (r .localPort) ++ (be 2 (r .remotePort)
-    ++ putMessage (r .sentOpen) (putMessage (r .receivedOpen) (joinTlvs r)))))
+    ++ (messageBytes (r .sentOpen) ++ (messageBytes (r .receivedOpen) ++ joinTlvs r)))))
 
 -- how many bytes are skipped before an address of a family, and how many the address has
 abbrev pub skippedFor : Afi → ℕ

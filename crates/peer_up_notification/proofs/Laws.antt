@@ -1,0 +1,64 @@
+-- What the walk kit asks of the TLVs of a Peer Up. Assumes nothing.
+use mathlib.Core.Path.{_≡_, refl, sym, ap, _∙_, subst}
+use mathlib.Core.List.{List, []}
+use Prim.Native.Nat.{ℕ, _+_, _≤_, _<_}
+use native.Mathlib.Omega.{arith}
+use lib.ListN.{length, drop}
+use Rattle.wire.specs.Bytes.{Bytes}
+use Rattle.wire.specs.Tlv.{Tlv, putTlv, sizeOf}
+use Rattle.wire.specs.Walk.{stop, item, refused}
+use Rattle.wire.specs.declared.Refusal.{Refusal}
+use Rattle.wire.specs.declared.Cursor.{Cursor}
+use Rattle.wire.proofs.Tlv.{tlv-length, tlv-there, tlv-join, tlv-rest, tlv-parts}
+use Rattle.wire.proofs.Walk.{Takes, Faults, Laws, Tails, onwards, TurnTo, turn-to, onwards-bad}
+use Rattle.peer_up_notification.specs.Grammar.{ReadTlv, GoodTail}
+use Rattle.peer_up_notification.specs.Read.{step, stepAt, kit}
+use Rattle.peer_up_notification.specs.declared.PeerUpNotificationTlv.{PeerUpNotificationTlv}
+use Rattle.peer_up_notification.specs.declared.Step.the-variants.{Bad, Whole}
+use Rattle.peer_up_notification.proofs.Steps.{see, none-of, whole-of, Found, found, stopped, numbered, was-bad, was-whole}
+
+pub faults : Faults kit
+faults s r e = numbered s r (see s) e
+
+pub takes : Takes kit
+takes s t e =
+    let f = found s t (see s) e in
+    subst (λ (u : Tlv). (0 < sizeOf u) × (sizeOf u ≤ length s)) (f .is) (omega arith, omega (arith, f .long, f .there))
+
+back : (s : List ℕ) → Bytes s → (t : Tlv) → Found s t → ReadTlv t (drop (sizeOf t) s) × (putTlv t (drop (sizeOf t) s) ≡ s)
+back s p t f =
+    subst (λ (u : Tlv). ReadTlv u (drop (sizeOf u) s) × (putTlv u (drop (sizeOf u) s) ≡ s)) (f .is) (tlv-parts s p (f .long) (f .there))
+
+pub laws : Laws kit putTlv ReadTlv
+laws =
+    record {
+      takes = takes;
+      forth = λ t r g.
+          (whole-of (putTlv t r) (omega (arith, tlv-length t r g)) (tlv-there t r g) ∙ ap item (tlv-join t r g), tlv-rest t r g);
+      back = λ s p t e. back s p t (found s t (see s) e);
+    }
+
+nil : step [] ≡ stop
+nil = none-of [] (omega arith)
+
+pub tails : Tails kit (List ℕ) (λ z. z) GoodTail
+tails =
+    record {
+      tailOf = λ z. z;
+      nil = nil;
+      stops = λ z p e. ((stopped z (see z) e, p), refl);
+      ends = λ z g. (none-of z (g .0), refl);
+    }
+
+-- ---- a turn of the reader's loop: it finds a fault, or a TLV
+pub refuses : (n at : ℕ) (table : List PeerUpNotificationTlv) (s : List ℕ) (d : Refusal) → n ≤ at → stepAt s at ≡ Bad d
+    → onwards kit n at table s ≡ refused d
+refuses n at table s d few e =
+    let w = was-bad at d (step (drop at s)) e in
+    onwards-bad kit nil n at table s (w .0) few (w .1) ∙ ap refused (w .2)
+
+pub onward : (n at : ℕ) (table : List PeerUpNotificationTlv) (s : List ℕ) (u : PeerUpNotificationTlv) (c : Cursor)
+    → n ≤ at → at ≤ length s → stepAt s at ≡ Whole u c → TurnTo kit takes n at table s u (c .at)
+onward n at table s u c few h e =
+    let w = was-whole at u c (step (drop at s)) e in
+    turn-to kit takes n at table s (w .0) u (c .at) few h (w .1) (w .2) (w .3)

@@ -1,0 +1,94 @@
+-- What a user of the Peer Up body relies on. Assumes nothing.
+use mathlib.Core.Path.{_≡_, sym, _∙_, subst}
+use mathlib.Core.Bool.{true}
+use mathlib.Core.List.{List}
+use Prim.Native.Nat.{ℕ, _≤_}
+use native.Mathlib.Omega.{arith}
+use lib.ListN.{length, take, length-take}
+use Rattle.wire.specs.Number as Number
+use Rattle.wire.specs.Bytes.{Bytes}
+use Rattle.wire.proofs.Determined.{determined}
+use Rattle.writing.specs.Write.{lengthOf, writeAnswer, written}
+use Rattle.writing.specs.declared.WriteAnswer.{WriteAnswer}
+use Rattle.writing.specs.declared.WriteAnswer.the-variants.{Written}
+use Rattle.writing.proofs.Answers.{front}
+use Rattle.writing.proofs.Table.{length-parts}
+use Rattle.models.specs.declared.Afi.{Afi}
+use Rattle.peer.specs.declared.BmpPeerType.{BmpPeerType}
+use Rattle.peer_up_notification.specs.Grammar.{Reading, join, Good}
+use Rattle.peer_up_notification.specs.Shown.{kindOf, Fits, shown}
+use Rattle.peer_up_notification.specs.Read.{readPeerUp}
+use Rattle.peer_up_notification.specs.Write.{writer, kept, readingOf, bytesOf, writable, Typed}
+use Rattle.peer_up_notification.specs.declared.PeerUpTlvType.{PeerUpTlvType}
+use Rattle.peer_up_notification.specs.declared.PeerUpNotification.{PeerUpNotification}
+use Rattle.peer_up_notification.specs.declared.PeerUpAnswer.{PeerUpAnswer}
+use Rattle.peer_up_notification.proofs.Sound.{accepted, reading-of, same-reading}
+use Rattle.peer_up_notification.proofs.Written.{writes-of}
+use Rattle.peer_up_notification.proofs.Shows.{Shows, shown-all, ShowsParts, shows-parts}
+use Rattle.peer_up_notification.proofs.Trip.{good-of, ReadsBack, reads-back}
+use Rattle.peer_up_notification.proofs.Converse.{Inside, bytes-written, writable-from}
+
+-- Every good reading that fits is accepted, and shown.
+pub complete : (afi : Afi) (peer : BmpPeerType) (r : Reading) → Good afi r → Fits r → length (join r) ≤ Number.limit
+    → readPeerUp afi peer (join r) ≡ shown afi peer r
+complete afi peer r g f short = shown-all afi r g peer f short
+
+-- What the reader accepts has a good reading that fits, and it shows that reading.
+pub sound : (afi : Afi) (peer : BmpPeerType) (s : List ℕ) → Bytes s → readPeerUp afi peer s .refusal .number ≡ Number.Good
+    → (r : Reading) × Shows afi peer s r
+sound afi peer s p e =
+    let a = accepted afi peer s e in
+    let q = reading-of afi s p a in
+    let r = q .0 in
+    let short : length (join r) ≤ Number.limit = subst (λ (x : List ℕ). length x ≤ Number.limit) (sym (q .3)) (a .short) in (
+      r,
+      record {
+        is-good = q .1;
+        fits = q .2;
+        joined = q .3;
+        shown-so = subst (λ (x : List ℕ). readPeerUp afi peer x ≡ shown afi peer r) (q .3) (complete afi peer r (q .1) (q .2) short);
+      },
+    )
+
+-- No input has two readings for one family, whatever the table holds.
+pub unique : (afi : Afi) (r q : Reading) → Good afi r → Good afi q → join r ≡ join q → r ≡ q
+unique = same-reading
+
+-- In the answer that shows a good reading, the views of the two messages show their bytes, and the view of each TLV its value.
+pub views : (afi : Afi) (peer : BmpPeerType) (r : Reading) → Good afi r → ShowsParts (join r) (shown afi peer r) r
+views = shows-parts
+
+-- What the writer has written, where the record is writable and there is room, is read back with its own family as the same record,
+-- whatever type of peer the reader is given.
+pub round-trip : (peer : BmpPeerType) (m : PeerUpNotification) (b out out′ : List ℕ) (a : WriteAnswer) → Bytes b → Typed m
+    → a ≡ writeAnswer (writable m b) (length (bytesOf m b)) (length out) → out′ ≡ written (writable m b) (bytesOf m b) out
+    → writable m b ≡ true → length (bytesOf m b) ≤ Number.limit → length (bytesOf m b) ≤ length out
+    → (a ≡ Written (length (bytesOf m b))) × ReadsBack peer m b (take (lengthOf a) out′)
+round-trip peer m b out out′ a p t ea eo w short room =
+    let afi = m .«local_addr» .afi in
+    let f = front (writable m b) (bytesOf m b) out out′ a ea eo w short room in
+    let x = writes-of m b w in
+    let g = good-of m b p t x in
+    let n = length-parts writer b (kept m) ∙ length-take (m .count) (m .tlvs) in
+    let shown-so = complete afi peer (readingOf m b) g (omega (arith, n, x .table .few)) short in
+    (f .answer-is, subst (ReadsBack peer m b) (sym (f .bytes-are)) (reads-back peer m b p t x shown-so (views afi peer (readingOf m b) g)))
+
+-- A record whose views lie inside the buffer, and whose bytes are read back as itself, is writable.
+pub only-writable : (peer : BmpPeerType) (m : PeerUpNotification) (b : List ℕ) → Bytes b → Typed m → Inside m b
+    → ReadsBack peer m b (bytesOf m b) → writable m b ≡ true
+only-writable peer m b p t inside r =
+    let afi = m .«local_addr» .afi in
+    let q = sound afi peer (bytesOf m b) (bytes-written m b p t) (r .read-good) in
+    writable-from peer m b p t inside (q .0) (q .1) (views afi peer (q .0) (q .1 .is-good)) r
+
+-- ---- any two answers, and any two outputs, that the contracts allow are equal
+pub parse-determined : (afi : Afi) (peer : BmpPeerType) (s : List ℕ) (a b : PeerUpAnswer) → a ≡ readPeerUp afi peer s → b ≡ readPeerUp afi peer s → a ≡ b
+parse-determined afi peer s a b = determined
+
+pub write-determined : (m : PeerUpNotification) (b out : List ℕ) (r q : WriteAnswer) (o p : List ℕ)
+    → r ≡ writeAnswer (writable m b) (length (bytesOf m b)) (length out) → q ≡ writeAnswer (writable m b) (length (bytesOf m b)) (length out)
+    → o ≡ written (writable m b) (bytesOf m b) out → p ≡ written (writable m b) (bytesOf m b) out → (r ≡ q) × (o ≡ p)
+write-determined m b out r q o p er eq eo ep = (determined er eq, determined eo ep)
+
+pub kind-of-determined : (kind : PeerUpTlvType) (r q : ℕ) → r ≡ kindOf kind → q ≡ kindOf kind → r ≡ q
+kind-of-determined kind r q = determined

@@ -1,0 +1,216 @@
+-- What the writing kit asks of a Peer Up body, and what `writable` asks of a record. Assumes nothing.
+use mathlib.Core.Path.{_≡_, refl, sym, ap, ap₂, _∙_, subst}
+use mathlib.Core.Bool.{Bool, true, false, _&&_, and-false, and-eq-true-iff}
+use mathlib.Core.List.{List, [], _∷_, _++_, append-assoc}
+use Prim.Native.Nat.{ℕ, suc, _+_, _^_, _≤_, _<_}
+use native.Mathlib.Omega.{arith}
+use borrow.Author.Tests.{leb-true, ltb-true, eqb-true, le-leb, lt-ltb, eq-eqb}
+use lib.Dec.{leb, ltb, eqb}
+use lib.ListN.{length, drop, getD, replicate, length-append, length-map}
+use lib.Seq.{sets}
+use mir.Val.{Val}
+use denote.Laws.{Is}
+use denote.Struct.Laws as Struct
+use Rattle.wire.specs.Bytes.{be, numAt, numberAt, Bytes, none, more}
+use Rattle.wire.specs.View.{inside, viewed}
+use Rattle.wire.specs.declared.View.{View}
+use Rattle.wire.proofs.Bytes.{number-is}
+use Rattle.wire.proofs.Views.{inside-is, viewed-inside, length-part, bytes-viewed}
+use Rattle.writing.specs.Table.{joined, allOk, sizes}
+use Rattle.writing.specs.Write.{putAt}
+use Rattle.writing.proofs.Sets.{length-tlv, put-then, put-fits, length-put}
+use Rattle.writing.proofs.Tlv.{TlvFits, fits-of, fits-from, value-long}
+use Rattle.writing.proofs.Table.{Bodied, Kept, kept-of, length-joined, Going, starts}
+use Rattle.models.specs.declared.IpAddr.{IpAddr}
+use Rattle.models.proofs.Promises.{equals-is-equality}
+use Rattle.peer_up_notification.specs.Grammar.{messageBytes, skippedFor}
+use Rattle.peer_up_notification.specs.Shown.{kindOf, places}
+use Rattle.peer_up_notification.specs.Read.{localAddress}
+use Rattle.peer_up_notification.specs.Write.{openOf, addressWritable, openWritable, tlvWritable, writer, oneTlv, kept, readingOf, bytesOf, tlvsWritable, writable, frontBytes, frontLength}
+use Rattle.peer_up_notification.specs.declared.PeerUpNotificationTlv.{PeerUpNotificationTlv}
+use Rattle.peer_up_notification.specs.declared.PeerUpNotification.{PeerUpNotification}
+use Rattle.peer_up_notification.proofs.Opens.{OneMessage, open-back}
+use Rattle.peer_up_notification.proofs.PeerUpNotification as Notification
+use Rattle.peer_up_notification.proofs.PeerUpNotification.Laws as NotificationLaws
+
+-- how long the table of a notification is, from what owning one tells
+pub table-long : (m : PeerUpNotification) (vs : List Val) → Is Notification.the-row m vs → length (m .tlvs) ≡ places
+table-long m vs is = sym (length-map (m .tlvs) _) ∙ Struct.owed Notification.the-type NotificationLaws.the-laws m vs is .1 .1 .1 .1 .1 .0 .1 .0 .1
+
+-- ---- one TLV
+pub fine-of : (room : ℕ) (t : PeerUpNotificationTlv) → tlvWritable room t ≡ true → TlvFits (kindOf (t .«info_type»)) (t .«info_len») (t .«info_value») room
+unfolding tlvWritable
+fine-of room t e = fits-of _ _ _ _ e
+
+pub fine-from : (room : ℕ) (t : PeerUpNotificationTlv) → TlvFits (kindOf (t .«info_type»)) (t .«info_len») (t .«info_value») room → tlvWritable room t ≡ true
+unfolding tlvWritable
+fine-from room t f = fits-from _ _ _ _ f
+
+pub bodied : Bodied writer oneTlv
+unfolding be
+bodied =
+    record {
+      put-is = λ b t r. refl;
+      length-is = λ b n t e.
+          length-tlv (kindOf (t .«info_type»)) (t .«info_len») (viewed b (t .«info_value»))
+          ∙ omega (arith, value-long _ _ _ b (fine-of (length b) t e));
+    }
+
+-- ---- a BGP message
+pub record FineOpen (b : List ℕ) (v : View) : Type 0 where
+  pub within : v .place + v .length ≤ length b
+  pub has-header : 19 ≤ v .length
+  pub size-fits : v .length < 256 ^ 2
+  pub size-is : numAt 2 (viewed b v) 16 ≡ v .length
+
+pub open-of : (b : List ℕ) (v : View) → openWritable b v ≡ true → FineOpen b v
+unfolding openWritable
+open-of b v e =
+    let a = and-eq-true-iff (inside (length b) v) _ .0 e in
+    let d = and-eq-true-iff (leb 19 (v .length)) _ .0 (a .1) in
+    let f = and-eq-true-iff (ltb (v .length) (256 ^ 2)) (eqb (numAt 2 (viewed b v) 16) (v .length)) .0 (d .1) in
+    record {
+      within = leb-true (v .place + v .length) (length b) (a .0);
+      has-header = leb-true 19 (v .length) (d .0);
+      size-fits = ltb-true (v .length) (256 ^ 2) (f .0);
+      size-is = eqb-true (numAt 2 (viewed b v) 16) (v .length) (f .1);
+    }
+
+pub open-from : (b : List ℕ) (v : View) → FineOpen b v → openWritable b v ≡ true
+unfolding openWritable
+open-from b v f =
+    let size = eqb (numAt 2 (viewed b v) 16) (v .length) in
+    let small = ltb (v .length) (256 ^ 2) in
+    let header = leb 19 (v .length) in
+    and-eq-true-iff (inside (length b) v) (header && (small && size)) .1 (
+      inside-is (length b) v (f .within),
+      and-eq-true-iff header (small && size) .1 (
+        le-leb 19 (v .length) (f .has-header),
+        and-eq-true-iff small size .1 (
+          lt-ltb (v .length) (256 ^ 2) (f .size-fits),
+          eq-eqb (numAt 2 (viewed b v) 16) (v .length) (f .size-is),
+        ),
+      ),
+    )
+
+pub view-long : (b : List ℕ) (v : View) → v .place + v .length ≤ length b → length (viewed b v) ≡ v .length
+view-long b v h = ap length (viewed-inside b v h) ∙ length-part b (v .place) (v .length) h
+
+-- as `open_writable` judges one that lies inside and has a header: by its own length, which is a number of two bytes
+last-decides : (a b c d : Bool) → a ≡ true → b ≡ true → (d ≡ true → c ≡ true) → d ≡ (a && (b && (c && d)))
+last-decides a b c true p q k = rw (p, q, k refl)
+last-decides a b c false p q k = rw (p, q, and-false c)
+
+pub open-judged : (b : List ℕ) (v : View) (size : ℕ) → inside (length b) v ≡ true → 19 ≤ v .length → size < 256 ^ 2
+    → size ≡ numberAt 2 (viewed b v) 16 → eqb size (v .length) ≡ openWritable b v
+unfolding openWritable
+open-judged b v size i h small e =
+    let n = view-long b v (leb-true (v .place + v .length) (length b) i) in
+    let size-is : size ≡ numAt 2 (viewed b v) 16 = e ∙ number-is 2 (viewed b v) 16 (omega arith) in
+    ap (λ (k : ℕ). eqb k (v .length)) size-is
+    ∙ last-decides (inside (length b) v) (leb 19 (v .length)) (ltb (v .length) (256 ^ 2)) (eqb (numAt 2 (viewed b v) 16) (v .length))
+    i (le-leb 19 (v .length) h) (λ k. lt-ltb (v .length) (256 ^ 2) (omega (arith, eqb-true (numAt 2 (viewed b v) 16) (v .length) k, size-is, small)))
+
+pub one-of : {b : List ℕ} → Bytes b → (v : View) → FineOpen b v → OneMessage (viewed b v)
+one-of {b} p v f =
+    let n = view-long b v (f .within) in
+    record { are-bytes = bytes-viewed b v p; has-header = omega (arith, f .has-header); size-is = f .size-is ∙ sym n }
+
+-- ---- the whole record
+pub record Writes (m : PeerUpNotification) (b : List ℕ) : Type 0 where
+  pub address-is : localAddress (m .«local_addr» .afi) (m .«local_addr» .octets) ≡ m .«local_addr»
+  pub sent : FineOpen b (m .«sent_open»)
+  pub received : FineOpen b (m .«received_open»)
+  pub table : Kept writer places (m .count) (m .tlvs) (length b)
+
+pub writes-of : (m : PeerUpNotification) (b : List ℕ) → writable m b ≡ true → Writes m b
+writes-of m b e =
+    let address = m .«local_addr» in
+    let a = and-eq-true-iff (addressWritable address) _ .0 e in
+    let s = and-eq-true-iff (openWritable b (m .«sent_open»)) _ .0 (a .1) in
+    let r = and-eq-true-iff (openWritable b (m .«received_open»)) (tlvsWritable m (length b)) .0 (s .1) in
+    record {
+      address-is = equals-is-equality (localAddress (address .afi) (address .octets)) address .0 (a .0);
+      sent = open-of b (m .«sent_open») (s .0);
+      received = open-of b (m .«received_open») (r .0);
+      table = kept-of writer places (m .count) (m .tlvs) (length b) (r .1);
+    }
+
+-- ---- its bytes: those before the TLVs, and then the TLVs
+module _ (m : PeerUpNotification) (b : List ℕ) (p : Bytes b) (w : Writes m b) where
+  octets-are : replicate (skippedFor (m .«local_addr» .afi)) 0 ++ drop (skippedFor (m .«local_addr» .afi)) (m .«local_addr» .octets) ≡ m .«local_addr» .octets
+  octets-are = ap (λ (a : IpAddr). a .octets) (w .address-is)
+
+  pub bytes-are : bytesOf m b ≡ frontBytes m b ++ joined writer b (kept m)
+  unfolding be
+  bytes-are =
+      let k = skippedFor (m .«local_addr» .afi) in
+      let sent = viewed b (m .«sent_open») in
+      let received = viewed b (m .«received_open») in
+      let tlvs = joined writer b (kept m) in
+      let s = open-back sent (one-of p (m .«sent_open») (w .sent)) in
+      let r = open-back received (one-of p (m .«received_open») (w .received)) in
+      let ports = be 2 (m .«local_port») ++ be 2 (m .«remote_port») in
+      let messages : messageBytes (openOf sent) ++ (messageBytes (openOf received) ++ tlvs) ≡ (sent ++ received) ++ tlvs =
+      ap₂ (λ (x y : List ℕ). x ++ (y ++ tlvs)) s r ∙ sym (append-assoc sent received tlvs) in
+      sym (append-assoc (replicate k 0) (drop k (m .«local_addr» .octets)) (ports ++ (messageBytes (openOf sent) ++ (messageBytes (openOf received) ++ tlvs))))
+      ∙ ap₂ (λ (x y : List ℕ). x ++ (ports ++ y)) octets-are messages
+      ∙ sym (append-assoc (m .«local_addr» .octets) (ports ++ (sent ++ received)) tlvs)
+
+module _ (m : PeerUpNotification) (b : List ℕ) (w : Writes m b) (sixteen : length (m .«local_addr» .octets) ≡ 16) where
+  pub length-front : length (frontBytes m b) ≡ frontLength m
+  unfolding be
+  length-front =
+      let sent = viewed b (m .«sent_open») in
+      let received = viewed b (m .«received_open») in
+      let a = length-append (m .«local_addr» .octets) (be 2 (m .«local_port») ++ (be 2 (m .«remote_port») ++ (sent ++ received))) in
+      let d = length-append sent received in
+      omega (arith, a, d, sixteen, view-long b (m .«sent_open») (w .sent .within), view-long b (m .«received_open») (w .received .within))
+
+  -- one put after the other
+  pub put-all : (out o1 o2 o3 o4 o5 x y : List ℕ) → x ≡ viewed b (m .«sent_open») → y ≡ viewed b (m .«received_open») → frontLength m ≤ length out
+      → o1 ≡ putAt out 0 (m .«local_addr» .octets) → o2 ≡ putAt o1 16 (be 2 (m .«local_port»)) → o3 ≡ putAt o2 18 (be 2 (m .«remote_port»))
+      → o4 ≡ putAt o3 20 x → o5 ≡ putAt o4 (20 + m .«sent_open» .length) y
+      → o5 ≡ sets out 0 (frontBytes m b)
+  unfolding be
+  put-all out o1 o2 o3 o4 o5 x y ex ey long e1 e2 e3 e4 e5 =
+      let octets = m .«local_addr» .octets in
+      let local = be 2 (m .«local_port») in
+      let remote = be 2 (m .«remote_port») in
+      let sent = viewed b (m .«sent_open») in
+      let received = viewed b (m .«received_open») in
+      let n4 = view-long b (m .«sent_open») (w .sent .within) in
+      let n5 = view-long b (m .«received_open») (w .received .within) in
+      let d = length-append sent received in
+      let m1 : length o1 ≡ length out = ap length e1 ∙ length-put out 0 octets in
+      let m2 : length o2 ≡ length out = ap length e2 ∙ length-put o1 16 local ∙ m1 in
+      let m3 : length o3 ≡ length out = ap length e3 ∙ length-put o2 18 remote ∙ m2 in
+      let q5 = put-then o3 o4 o5 20 (20 + m .«sent_open» .length) sent received (omega (arith, n4, n5, m3, long)) (e4 ∙ ap (putAt o3 20) ex) (omega (arith, n4))
+      (e5 ∙ ap (putAt o4 (20 + m .«sent_open» .length)) ey) in
+      let q3 = put-then o2 o3 o5 18 20 remote (sent ++ received) (omega (arith, n4, n5, d, m2, long)) e3 refl q5 in
+      let q2 = put-then o1 o2 o5 16 18 local (remote ++ (sent ++ received)) (omega (arith, n4, n5, d, m1, long)) e2 refl q3 in
+      let q1 = put-then out o1 o5 0 16 octets (local ++ (remote ++ (sent ++ received))) (omega (arith, n4, n5, d, sixteen, long)) e1 (omega (arith, sixteen)) q2 in
+      q1 ∙ put-fits out 0 (frontBytes m b) (omega (arith, length-front, long))
+
+  pub length-bytes : Bytes b → length (bytesOf m b) ≡ frontLength m + sizes writer (kept m)
+  length-bytes p =
+      ap length (bytes-are m b p w) ∙ length-append (frontBytes m b) (joined writer b (kept m))
+      ∙ omega (arith, length-front, length-joined writer bodied b (kept m) (w .table .fine))
+
+-- the output, before and after what stands before the TLVs was put in front of it
+pub record Headed (m : PeerUpNotification) (b out₀ out : List ℕ) : Type 0 where
+  pub put-is : out ≡ sets out₀ 0 (frontBytes m b)
+  pub room : frontLength m + sizes writer (kept m) ≤ length out₀
+
+pub starts-tlvs : (m : PeerUpNotification) (b out₀ out : List ℕ) → Bytes b → Writes m b → length (m .«local_addr» .octets) ≡ 16 → Headed m b out₀ out
+    → Going writer bodied b out₀ (bytesOf m b) (kept m) (frontLength m) out
+starts-tlvs m b out₀ out p w sixteen h =
+    let n = length-front m b w sixteen in
+    subst (λ (k : ℕ). Going writer bodied b out₀ (bytesOf m b) (kept m) k out) n
+    (subst (λ (all : List ℕ). Going writer bodied b out₀ all (kept m) (length (frontBytes m b)) out) (sym (bytes-are m b p w))
+    (starts writer bodied b out₀ out (frontBytes m b) (kept m) (h .put-is) (w .table .fine) (omega (arith, h .room, n))))
+
+-- what a slice of u8 holds are bytes, from what it says of each
+pub slice-bytes : (l : List ℕ) → ((i : ℕ) → getD l i 0 < 256) → Bytes l
+slice-bytes [] h = none
+slice-bytes (x ∷ l) h = more (h 0) (slice-bytes l (λ i. h (suc i)))
