@@ -154,7 +154,12 @@ fn read_received(
     match open_at(s, start.at) {
         Open::Broken(refusal) => refused(refusal),
         Open::Found(received_open, next) => {
-            read_tlvs(s, peer_type, front_of(s, afi, sent_open, received_open), next)
+            read_tlvs(
+                s,
+                peer_type,
+                front_of(s, afi, sent_open, received_open),
+                next,
+            )
         }
     }
 }

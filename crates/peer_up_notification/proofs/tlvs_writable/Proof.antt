@@ -48,9 +48,11 @@ loop-less c = search needs
 
 loop-again : tie.Need-loop-again Inv-loop μ-loop
 loop-again c =
-    let long = table-long (c .before .before .before .before .before .before .args .t1) _ (c .before .before .before .before .before .before .good .0) in
-    (omega arith, good-here writer (c .before .before .before .before .before .before .args .t1 .tlvs) _ _ _ (here _ (c .before .before .before .before .before .before .args .t1 .count) (c .before .before .before .before .loop .i) _ (omega (arith, long, c .before .before .before .before .before .if1 .left)) (c .before .before .before .loop-test .taken)) _ _ (c .before .before .before .before .loop .inv .1)
-    (sym (c .before .tlv-writable .ensures) ∙ not-false (c .before .tlv-writable .result) (c .if2 .left)))
+    let long = table-long (c .before .before .before .before .before .before .args .t1) _ (c .before .before .before .before .before .before .good .0) in (
+      omega arith,
+      good-here writer (c .before .before .before .before .before .before .args .t1 .tlvs) _ _ _ (here _ (c .before .before .before .before .before .before .args .t1 .count) (c .before .before .before .before .loop .i) _ (omega (arith, long, c .before .before .before .before .before .if1 .left)) (c .before .before .before .loop-test .taken)) _ _ (c .before .before .before .before .loop .inv .1)
+          (sym (c .before .tlv-writable .ensures) ∙ not-false (c .before .tlv-writable .result) (c .if2 .left)),
+    )
 
 returns-3 : tie.Need-returns-3 Inv-loop μ-loop
 returns-3 c = sym (c .before .loop .inv .1 ∙ ap (allOk writer (c .before .before .before .args .room)) (done (c .before .before .before .args .t1 .tlvs) (c .before .before .before .args .t1 .count) (c .before .loop .i) (c .loop-test .left)))
