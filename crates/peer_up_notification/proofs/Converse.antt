@@ -29,7 +29,7 @@ use Rattle.peer_up_notification.specs.declared.PeerUpNotification.{PeerU
 use Rattle.peer_up_notification.specs.declared.PeerUpAnswer.{PeerUpAnswer}
 use Rattle.peer_up_notification.proofs.Names.{kindOf-typeOf}
 use Rattle.peer_up_notification.proofs.Opens.{OneMessage, one-message}
-use Rattle.peer_up_notification.proofs.Written.{fine-from, FineOpen, open-from, view-long}
+use Rattle.peer_up_notification.proofs.Written.{fine-from, open-from, view-long}
 use Rattle.peer_up_notification.proofs.Shows.{Shows, ViewAt, ShowsParts}
 use Rattle.peer_up_notification.proofs.Trip.{zeros-bytes, ReadsBack}
 

@@ -1,6 +1,6 @@
 -- What the entries of a table say of its table's name, one after the other, and what the TLVs that they show say. Assumes nothing.
 use mathlib.Core.Path.{_≡_, refl, sym, ap, ap₂, _∙_}
-use mathlib.Core.Bool.{Bool, true, false, _||_, or-false, or-true, or-assoc}
+use mathlib.Core.Bool.{Bool, true, _||_, or-false, or-true, or-assoc}
 use mathlib.Core.List.{List, [], _∷_, _++_, map}
 use Prim.Native.Nat.{ℕ, zero, suc, _+_}
 use borrow.Author.Tests.{eq-eqb, ne-eqb}
@@ -9,9 +9,9 @@ use lib.ListN.{length, take, drop}
 use Rattle.wire.specs.Parts.{shownFrom}
 use Rattle.wire.specs.Tlv.{Tlv, sizeOf}
 use Rattle.writing.proofs.Table.{At}
-use Rattle.peer_up_notification.specs.Warnings.{Head, headOf, some, isTableName, badTableName, heardOf}
+use Rattle.peer_up_notification.specs.Warnings.{Head, headOf, some, isTableName, badTableName}
 use Rattle.peer_up_notification.specs.Shown.{typeOf, kindOf, entry}
-use Rattle.peer_up_notification.specs.Read.{headIn, headsIn}
+use Rattle.peer_up_notification.specs.Read.{headIn, headsIn, heardOf}
 use Rattle.peer_up_notification.specs.declared.PeerUpNotificationTlv.{PeerUpNotificationTlv}
 use Rattle.peer_up_notification.specs.declared.TableNames.{TableNames}
 

@@ -7,11 +7,11 @@ use borrow.Author.Tests.{le-leb, le-ltb}
 use lib.ListN.{length, take, drop, length-append}
 use lib.Seq.{take-at, drop-at, drop-drop}
 use Rattle.wire.specs.Number as Number
-use Rattle.wire.specs.Bytes.{be, value, numAt, numberAt}
+use Rattle.wire.specs.Bytes.{be, value, numAt}
 use Rattle.wire.specs.View.{view, viewed}
 use Rattle.wire.specs.Parts.{AllAt}
 use Rattle.wire.specs.Tlv.{Tlv, sizeOf}
-use Rattle.wire.specs.Walk.{readFrom, shows}
+use Rattle.wire.specs.Walk.{readFrom}
 use Rattle.wire.proofs.Bytes.{value-be, number-is}
 use Rattle.wire.proofs.Tlv.{tlv-viewed}
 use Rattle.wire.proofs.Walk.{read-complete, each-at}
@@ -21,9 +21,8 @@ use Rattle.models.specs.declared.Afi.the-variants.{Ipv4, Ipv6}
 use Rattle.peer.specs.declared.BmpPeerType.{BmpPeerType}
 use Rattle.peer_up_notification.specs.Grammar.{messageBytes, joinTlvs, join, skippedFor, addressFor, Reading, Good}
 use Rattle.peer_up_notification.specs.Warnings.{Head, warningsOf}
-use Rattle.peer_up_notification.specs.Shown.{entry, zeroTlv, places, sentAt, receivedAt, tlvsAt, shownAddress, shownFront, messageOf, goodAnswer, Fits, shown}
-use Rattle.peer_up_notification.specs.Read.{openAt, frontOf, kit, withTlvs, withReceived, withSent, readPeerUp}
-use Rattle.peer_up_notification.specs.declared.Open.{Open}
+use Rattle.peer_up_notification.specs.Shown.{entry, sentAt, receivedAt, tlvsAt, shownAddress, shownFront, goodAnswer, Fits, shown}
+use Rattle.peer_up_notification.specs.Read.{frontOf, kit, withTlvs, withReceived, withSent, readPeerUp}
 use Rattle.peer_up_notification.specs.declared.PeerUpAnswer.{PeerUpAnswer}
 use Rattle.peer_up_notification.proofs.Names.{heads-shown}
 use Rattle.peer_up_notification.proofs.Laws.{laws, tails}

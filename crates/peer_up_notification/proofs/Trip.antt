@@ -1,10 +1,10 @@
 -- A record that was written and is read again. Assumes nothing.
 use mathlib.Core.Path.{_≡_, refl, sym, ap, _∙_, subst}
 use mathlib.Core.List.{List}
-use Prim.Native.Nat.{ℕ, zero, suc, _+_, _≤_}
+use Prim.Native.Nat.{ℕ, zero, suc}
 use native.Mathlib.Omega.{arith}
 use lib.Dec.{lit<}
-use lib.ListN.{length, drop, getD, replicate, length-drop, length-replicate}
+use lib.ListN.{length, getD, replicate, length-drop, length-replicate}
 use lib.Seq.{getD-take, length-take-le}
 use Rattle.wire.specs.Number as Number
 use Rattle.wire.specs.Bytes.{Bytes, none, more}
@@ -16,7 +16,7 @@ use Rattle.writing.proofs.Table.{all-good, length-parts}
 use Rattle.writing.proofs.Trip.{each-same, end-sizes}
 use Rattle.peer.specs.declared.BmpPeerType.{BmpPeerType}
 use Rattle.peer_up_notification.specs.Grammar.{ReadTlv, skippedFor, Good}
-use Rattle.peer_up_notification.specs.Shown.{kindOf, zeroTlv, places, entry, tlvsAt, shown}
+use Rattle.peer_up_notification.specs.Shown.{kindOf, zeroTlv, entry, tlvsAt, shown}
 use Rattle.peer_up_notification.specs.Read.{readPeerUp}
 use Rattle.peer_up_notification.specs.Write.{writer, kept, readingOf, bytesOf, Typed, SameTlv, Same}
 use Rattle.peer_up_notification.specs.declared.PeerUpNotificationTlv.{PeerUpNotificationTlv}

@@ -16,7 +16,7 @@ use Rattle.wire.specs.View.{inside, viewed}
 use Rattle.wire.specs.declared.View.{View}
 use Rattle.wire.proofs.Bytes.{number-is}
 use Rattle.wire.proofs.Views.{inside-is, viewed-inside, length-part, bytes-viewed}
-use Rattle.writing.specs.Table.{joined, allOk, sizes}
+use Rattle.writing.specs.Table.{joined, sizes}
 use Rattle.writing.specs.Write.{putAt}
 use Rattle.writing.proofs.Sets.{length-tlv, put-then, put-fits, length-put}
 use Rattle.writing.proofs.Tlv.{TlvFits, fits-of, fits-from, value-long}
@@ -26,7 +26,7 @@ use Rattle.models.proofs.Promises.{equals-is-equality}
 use Rattle.peer_up_notification.specs.Grammar.{messageBytes, skippedFor}
 use Rattle.peer_up_notification.specs.Shown.{kindOf, places}
 use Rattle.peer_up_notification.specs.Read.{localAddress}
-use Rattle.peer_up_notification.specs.Write.{openOf, addressWritable, openWritable, tlvWritable, writer, oneTlv, kept, readingOf, bytesOf, tlvsWritable, writable, frontBytes, frontLength}
+use Rattle.peer_up_notification.specs.Write.{openOf, addressWritable, openWritable, tlvWritable, writer, oneTlv, kept, bytesOf, tlvsWritable, writable, frontBytes, frontLength}
 use Rattle.peer_up_notification.specs.declared.PeerUpNotificationTlv.{PeerUpNotificationTlv}
 use Rattle.peer_up_notification.specs.declared.PeerUpNotification.{PeerUpNotification}
 use Rattle.peer_up_notification.proofs.Opens.{OneMessage, open-back}

@@ -1,5 +1,6 @@
 -- What the reader answers, for every input.
 use Prim.Native.Nat.{ℕ, _+_, _-_}
+use mathlib.Core.Bool.{_||_}
 use mathlib.Core.List.{List, map}
 use lib.ListN.{length, take, drop}
 use lib.Dec.{ltb}
@@ -17,11 +18,12 @@ use Rattle.models.specs.declared.Afi.{Afi}
 use Rattle.models.specs.declared.IpAddr.{IpAddr}
 use Rattle.peer.specs.declared.BmpPeerType.{BmpPeerType}
 use Rattle.peer_up_notification.specs.Grammar.{widths, skippedFor}
-use Rattle.peer_up_notification.specs.Warnings.{Head, warningsOf}
+use Rattle.peer_up_notification.specs.Warnings.{Head, some, isTableName, badTableName, warningsOf}
 use Rattle.peer_up_notification.specs.Shown.{kindOf, places, entry, zeroTlv, sentAt, shownAddress, messageOf, goodAnswer, refusedAnswer}
 use Rattle.peer_up_notification.specs.declared.PeerUpNotificationTlv.{PeerUpNotificationTlv}
 use Rattle.peer_up_notification.specs.declared.PeerUpAnswer.{PeerUpAnswer}
 use Rattle.peer_up_notification.specs.declared.Front.{Front}
+use Rattle.peer_up_notification.specs.declared.TableNames.{TableNames}
 use Rattle.peer_up_notification.specs.declared.Open.{Open}
 use Rattle.peer_up_notification.specs.declared.Open.the-variants.{Broken, Found}
 use Rattle.peer_up_notification.specs.declared.Step.{Step}
@@ -78,6 +80,13 @@ headsIn l = map headIn l
 
 abbrev pub warningsIn : BmpPeerType → List PeerUpNotificationTlv → ℕ
 warningsIn peer l = warningsOf peer (headsIn l)
+
+-- both tests of entries in one record, as the code goes through them: one more is heard of
+abbrev pub namesOf : List Head → TableNames
+namesOf l = record { some = some isTableName l; bad = some badTableName l }
+
+abbrev pub heardOf : TableNames → Head → TableNames
+heardOf names h = record { some = names .some || isTableName h; bad = names .bad || badTableName h }
 
 -- ---- one after the other
 abbrev pub withTlvs : BmpPeerType → Front → Out PeerUpNotificationTlv → PeerUpAnswer

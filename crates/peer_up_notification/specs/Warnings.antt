@@ -8,7 +8,6 @@ use Rattle.wire.specs.Tlv.{Tlv}
 use Rattle.peer.specs.Peer.{kindOf, isLocRib}
 use Rattle.peer.specs.declared.BmpPeerType.{BmpPeerType}
 use Rattle.peer_up_notification.specs.Grammar.{Reading}
-use Rattle.peer_up_notification.specs.declared.TableNames.{TableNames}
 
 -- a TLV's type and length, by which it is judged
 abbrev pub Head : Type 0
@@ -36,13 +35,6 @@ noTableName l = not (some isTableName l)
 -- the word: a bit for each of them, where the peer is a Loc-RIB
 abbrev pub warningsOf : BmpPeerType → List Head → ℕ
 warningsOf peer l = pick (isLocRib (kindOf peer)) (pick (some badTableName l) 8 0 + pick (noTableName l) 16 0) 0
-
--- both tests of a list in one record, as the code goes through it: one more TLV is heard of
-abbrev pub namesOf : List Head → TableNames
-namesOf l = record { some = some isTableName l; bad = some badTableName l }
-
-abbrev pub heardOf : TableNames → Head → TableNames
-heardOf names h = record { some = names .some || isTableName h; bad = names .bad || badTableName h }
 
 abbrev pub warnings : BmpPeerType → Reading → ℕ
 warnings peer r = warningsOf peer (map headOf (r .tlvs))

@@ -20,9 +20,8 @@ ghost use Rattle.layout.specs.Layout.{cutIn};
 ghost use Rattle.writing.specs.Write.{putAt, writeAnswer, written};
 ghost use Rattle.writing.specs.Table.{sizes};
 ghost use Rattle.peer_up_notification.specs.Grammar.{widths};
-ghost use Rattle.peer_up_notification.specs.Warnings.{heardOf, namesOf};
 ghost use Rattle.peer_up_notification.specs.Shown.{typeOf, kindOf, zeroTlv, messageOf, goodAnswer, refusedAnswer};
-ghost use Rattle.peer_up_notification.specs.Read.{localAddress, openAt, frontOf, stepAt, kit, headIn, headsIn, warningsIn, withTlvs, withReceived, readPeerUp};
+ghost use Rattle.peer_up_notification.specs.Read.{localAddress, openAt, frontOf, stepAt, kit, headIn, headsIn, warningsIn, namesOf, heardOf, withTlvs, withReceived, readPeerUp};
 ghost use Rattle.peer_up_notification.specs.Write.{addressWritable, openWritable, tlvWritable, writer, oneTlv, kept, bytesOf, tlvsWritable, writable, frontBytes, frontLength};
 
 // 1 and 2 are the names of an Initiation message, whose numbers Peer Up shared before RFC 9736.

@@ -1,5 +1,5 @@
 use borrow.Author.Needs.{needs}
-use mathlib.Core.Path.{sym, _∙_}
+use mathlib.Core.Path.{_∙_}
 use Rattle.peer_up_notification.proofs.address_writable.Statement.{statement}
 use Rattle.peer_up_notification.proofs.address_writable.Tie as tie
 

@@ -1,8 +1,5 @@
 use borrow.Author.Needs.{needs}
-use denote.Ref.{now}
 use mathlib.Core.Path.{ap, _∙_}
-use Prim.Native.Nat.{ℕ}
-use mathlib.Core.List.{List}
 use Rattle.peer_up_notification.specs.Read.{localAddress}
 use Rattle.peer_up_notification.proofs.front_of.Statement.{statement}
 use Rattle.peer_up_notification.proofs.front_of.Tie as tie

@@ -4,9 +4,8 @@ use mathlib.Core.Path.{_≡_, refl, sym, ap, _∙_}
 use Prim.Native.Nat.{_-_, _≤_}
 use lib.ListN.{drop}
 use Rattle.writing.proofs.Table.{here, done}
-use Rattle.peer_up_notification.specs.Warnings.{namesOf}
 use Rattle.peer_up_notification.specs.Shown.{zeroTlv}
-use Rattle.peer_up_notification.specs.Read.{headsIn}
+use Rattle.peer_up_notification.specs.Read.{headsIn, namesOf}
 use Rattle.peer_up_notification.specs.Write.{kept}
 use Rattle.peer_up_notification.specs.declared.PeerUpNotificationTlv.{PeerUpNotificationTlv}
 use Rattle.peer_up_notification.proofs.Names.{alsoOf, also-none, heard-here}

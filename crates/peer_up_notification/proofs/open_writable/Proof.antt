@@ -1,13 +1,10 @@
 use borrow.Author.Needs.{needs}
 use native.Mathlib.Omega.{arith}
 use denote.Ref.{now}
-use borrow.Author.Tests.{not-true, not-false, lt-leb, le-leb}
-use mathlib.Core.Path.{_≡_, sym, ap, _∙_}
-use Prim.Native.Nat.{_<_}
-use mathlib.Core.Bool.{true}
+use borrow.Author.Tests.{not-true, not-false, lt-leb}
+use mathlib.Core.Path.{sym, _∙_}
 use Rattle.peer_up_notification.specs.Write.{openWritable}
 use Rattle.peer_up_notification.proofs.Written.{open-judged}
-use Rattle.wire.specs.View.{inside}
 use Rattle.peer_up_notification.proofs.open_writable.Statement.{statement}
 use Rattle.peer_up_notification.proofs.open_writable.Tie as tie
 
@@ -33,7 +30,6 @@ cast-result c = search needs
 
 returns-3 : tie.Need-returns-3
 returns-3 c =
-    let size = c .before .u16-at .ensures in
     open-judged (now (c .before .before .before .before .before .before .before .before .args .buffer)) (c .before .before .before .before .before .before .before .before .args .view) _ (sym (c .before .before .before .before .before .before .is-inside .ensures) ∙ not-false (c .before .before .before .before .before .before .is-inside .result) (c .before .before .before .before .before .if1 .left)) (omega arith) (omega arith) (c .before .u16-at .ensures ∙ rw (c .before .before .part .ensures))
 
 pub open-writable-spec : {M : Type 1} → statement M

@@ -2,14 +2,12 @@ use borrow.Author.Needs.{needs}
 use native.Mathlib.Omega.{arith}
 use denote.Ref.{now}
 use mathlib.Core.Path.{_≡_}
-use Prim.Native.Nat.{_-_, _≤_}
+use Prim.Native.Nat.{ℕ, _-_, _≤_}
 use mathlib.Core.List.{List}
-use Prim.Native.Nat.{ℕ}
 use lib.ListN.{length, drop, getD}
-use Rattle.wire.specs.Bytes.{Bytes}
 use Rattle.peer_up_notification.specs.Shown.{zeroTlv, places}
 use Rattle.peer_up_notification.specs.Write.{writer, kept, bytesOf}
-use Rattle.peer_up_notification.proofs.Written.{table-long, bodied, Writes, writes-of, Headed, starts-tlvs, slice-bytes}
+use Rattle.peer_up_notification.proofs.Written.{table-long, bodied, writes-of, Headed, starts-tlvs, slice-bytes}
 use Rattle.writing.proofs.Table.{At, here, done, Going, ends, asks, turned}
 use Rattle.peer_up_notification.proofs.put_message.Statement.{statement}
 use Rattle.peer_up_notification.proofs.put_message.Tie as tie

@@ -5,7 +5,6 @@ use mathlib.Core.Path.{_≡_, sym, ap, _∙_}
 use Prim.Native.Nat.{_+_}
 use lib.ListN.{drop}
 use native.Mathlib.Nat.{add-zero}
-use Rattle.peer_up_notification.specs.Shown.{entry}
 use Rattle.peer_up_notification.specs.declared.PeerUpTlvType.{PeerUpTlvType}
 use Rattle.peer_up_notification.specs.declared.Step.the-variants.{Bad, Whole}
 use Rattle.peer_up_notification.proofs.Steps.{brief-at, cut-at, whole-at}
