@@ -1,21 +1,25 @@
 -- What the walk kit asks of the TLVs of a Peer Up. Assumes nothing.
-use mathlib.Core.Path.{_≡_, refl, ap, _∙_, subst}
+use mathlib.Core.Path.{_≡_, refl, sym, ap, _∙_, subst}
 use mathlib.Core.List.{List, []}
-use Prim.Native.Nat.{ℕ, _≤_, _<_}
+use Prim.Native.Nat.{ℕ, _-_, _≤_, _<_}
 use native.Mathlib.Omega.{arith}
-use lib.ListN.{length, drop}
+use lib.ListN.{length, take, drop}
 use Rattle.wire.specs.Bytes.{Bytes}
 use Rattle.wire.specs.Tlv.{Tlv, putTlv, sizeOf}
-use Rattle.wire.specs.Walk.{stop, item, refused}
+use Rattle.wire.specs.Walk.{stop, item, Out, refused}
 use Rattle.wire.specs.declared.Refusal.{Refusal}
 use Rattle.wire.specs.declared.Cursor.{Cursor}
 use Rattle.wire.proofs.Tlv.{tlv-length, tlv-there, tlv-join, tlv-rest, tlv-parts}
-use Rattle.wire.proofs.Walk.{Takes, Faults, Laws, Tails, onwards, TurnTo, turn-to, onwards-bad}
+use Rattle.wire.proofs.Walk.{Takes, Faults, Laws, Tails, onwards, TurnTo, turn-to, onwards-bad, resume-stop}
+use Rattle.peer.specs.declared.BmpPeerType.{BmpPeerType}
 use Rattle.peer_up_notification.specs.Grammar.{ReadTlv, GoodTail}
-use Rattle.peer_up_notification.specs.Read.{step, stepAt, kit}
+use Rattle.peer_up_notification.specs.Shown.{messageOf, goodAnswer}
+use Rattle.peer_up_notification.specs.Read.{step, stepAt, kit, warningsIn, withTlvs}
 use Rattle.peer_up_notification.specs.declared.PeerUpNotificationTlv.{PeerUpNotificationTlv}
-use Rattle.peer_up_notification.specs.declared.Step.the-variants.{Bad, Whole}
-use Rattle.peer_up_notification.proofs.Steps.{see, none-of, whole-of, Found, found, stopped, numbered, was-bad, was-whole}
+use Rattle.peer_up_notification.specs.declared.PeerUpAnswer.{PeerUpAnswer}
+use Rattle.peer_up_notification.specs.declared.Front.{Front}
+use Rattle.peer_up_notification.specs.declared.Step.the-variants.{Stop, Bad, Whole}
+use Rattle.peer_up_notification.proofs.Steps.{see, none-of, whole-of, Found, found, stopped, numbered, was-stop, was-bad, was-whole}
 
 pub faults : Faults kit
 faults s r e = numbered s r (see s) e
@@ -62,3 +66,12 @@ pub onward : (n at : ℕ) (table : List PeerUpNotificationTlv) (s : List ℕ) (u
 onward n at table s u c few h e =
     let w = was-whole at u c (step (drop at s)) e in
     turn-to kit takes n at table s (w .0) u (c .at) few h (w .1) (w .2) (w .3)
+
+-- and where it finds neither, the answer is what was found before
+pub ends-well : (peer : BmpPeerType) (f : Front) (n at : ℕ) (table : List PeerUpNotificationTlv) (s : List ℕ) (p : ℕ) (o : Out PeerUpNotificationTlv)
+    (a : PeerUpAnswer) → o ≡ onwards kit n at table s → stepAt s at ≡ Stop p
+    → a ≡ goodAnswer p (warningsIn peer (take n table)) (messageOf f n table) → a ≡ withTlvs peer f o
+ends-well peer f n at table s p o a e h shown =
+    let w = was-stop at p (step (drop at s)) h in
+    shown ∙ ap (λ (k : ℕ). goodAnswer k (warningsIn peer (take n table)) (messageOf f n table)) (w .1)
+    ∙ ap (withTlvs peer f) (sym (e ∙ resume-stop kit n at table s (length s - n) (w .0)))

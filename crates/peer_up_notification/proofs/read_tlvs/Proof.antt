@@ -3,15 +3,14 @@ use native.Mathlib.Omega.{arith}
 use denote.Ref.{now}
 use mathlib.Core.Path.{_≡_, sym, ap, _∙_}
 use Prim.Native.Nat.{_-_, _≤_}
-use lib.ListN.{length, drop}
+use lib.ListN.{length}
 use native.Mathlib.Nat.{sub-zero}
 use Rattle.wire.specs.Walk.{Out, readFrom}
-use Rattle.wire.proofs.Walk.{TurnTo, resume-stop, onwards}
+use Rattle.wire.proofs.Walk.{TurnTo, onwards}
 use Rattle.peer_up_notification.specs.Shown.{places, refusedAnswer}
-use Rattle.peer_up_notification.specs.Read.{step, kit, withTlvs}
+use Rattle.peer_up_notification.specs.Read.{kit, withTlvs}
 use Rattle.peer_up_notification.specs.declared.PeerUpNotificationTlv.{PeerUpNotificationTlv}
-use Rattle.peer_up_notification.proofs.Laws.{takes, refuses, onward}
-use Rattle.peer_up_notification.proofs.Steps.{was-stop}
+use Rattle.peer_up_notification.proofs.Laws.{takes, refuses, onward, ends-well}
 use Rattle.peer_up_notification.proofs.read_tlvs.Statement.{statement}
 use Rattle.peer_up_notification.proofs.read_tlvs.Tie as tie
 
@@ -87,10 +86,7 @@ accepted-requires : tie.Need-accepted-requires Inv-loop μ-loop
 accepted-requires c κs = c .before .before .before .before .loop .inv .1 .0
 
 returns-3 : tie.Need-returns-3 Inv-loop μ-loop
-returns-3 c =
-    let b = was-stop (c .before .before .before .before .before .loop .at) _ (step (drop (c .before .before .before .before .before .loop .at) (now (c .before .before .before .before .before .before .before .before .args .s)))) (sym (c .before .before .before .before .step-at .ensures) ∙ c .before .before .place .given .1) in
-    let stopped = resume-stop kit (c .before .before .before .before .before .loop .count) (c .before .before .before .before .before .loop .at) (c .before .before .before .before .before .loop .tlvs) (now (c .before .before .before .before .before .before .before .before .args .s)) (length (now (c .before .before .before .before .before .before .before .before .args .s)) - c .before .before .before .before .before .loop .count) (b .0) in
-    c .accepted .ensures ∙ rw (b .1) (sym (answer-by (c .before .before .before .before) _ stopped))
+returns-3 c = ends-well (c .before .before .before .before .before .before .before .before .args .peer-type) (c .before .before .before .before .before .before .before .before .args .front) (c .before .before .before .before .before .loop .count) (c .before .before .before .before .before .loop .at) (c .before .before .before .before .before .loop .tlvs) (now (c .before .before .before .before .before .before .before .before .args .s)) _ _ _ (c .before .before .before .before .before .loop .inv .1 .1) (sym (c .before .before .before .before .step-at .ensures) ∙ c .before .before .place .given .1) (c .accepted .ensures)
 
 pub read-tlvs-spec : {M : Type 1} → statement M
 read-tlvs-spec =
