@@ -217,7 +217,7 @@ fn read_tlvs(s: &[u8], peer_type: BmpPeerType, front: Front, start: Cursor) -> P
     accepted(peer_type, front, stop, tlvs, count)
 }
 
-// Only Peer Up reads a TLV where exactly 4 bytes are left: it is one of length 0.
+// Of all walks only this one goes on where exactly 4 bytes are left: a last TLV may be empty.
 fn step_at(s: &[u8], at: usize) -> Step
     ensures { λ r. ⌜ r ≡ stepAt (now (s .entry)) at ⌝ }
 {

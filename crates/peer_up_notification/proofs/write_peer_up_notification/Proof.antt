@@ -9,13 +9,23 @@ use lib.ListN.{length}
 use Rattle.wire.specs.Bytes.{Bytes}
 use Rattle.writing.specs.Write.{writeAnswer}
 use Rattle.writing.proofs.Answers.{answered, left-alone, wrote, put-there, refused-so}
-use Rattle.peer_up_notification.specs.Write.{bytesOf, writable}
-use Rattle.peer_up_notification.proofs.Written.{writes-of, length-bytes, slice-bytes}
+use Rattle.peer_up_notification.specs.Write.{bytesOf, writable, Typed}
+use Rattle.peer_up_notification.proofs.Written.{table-long, writes-of, length-bytes, slice-bytes}
+use Rattle.layout.proofs.Octets.{array-bytes}
 use Rattle.peer_up_notification.proofs.write_peer_up_notification.Statement.{statement}
 use Rattle.peer_up_notification.proofs.write_peer_up_notification.Tie as tie
 
-sixteen : (c : tie.Start) → length (c .args .message .«local_addr» .octets) ≡ 16
-sixteen c = search needs
+-- The promises speak of every record that is handed to the writer.
+typed : (c : tie.Start) → Typed (c .args .message)
+typed c =
+    let octets = c .good .0 .1 .1 .0 .1 .1 .0 in
+    record {
+      octets-long = search needs;
+      octets-bytes = array-bytes (c .args .message .«local_addr» .octets) (octets .0) (octets .1 .1);
+      local-port-fits = omega (arith, c .good);
+      remote-port-fits = omega (arith, c .good);
+      table-long = table-long (c .args .message) _ (c .good .0);
+    }
 
 buffer-bytes : (c : tie.After-is-writable) → Bytes (now (c .before .before .before .args .buffer))
 buffer-bytes c = slice-bytes (now (c .before .before .before .args .buffer)) (λ i. omega (arith, c .before .before .shared-slice-known .given i))
@@ -24,7 +34,7 @@ is-ok : (c : tie.Else1) → writable (c .before .before .before .before .args .m
 is-ok c = sym (c .before .is-writable .ensures) ∙ not-false (c .before .is-writable .result) (c .if1 .left)
 
 long : (c : tie.After-written-length) → writable (c .before .before .before .before .before .args .message) (now (c .before .before .before .before .before .args .buffer)) ≡ true → length (bytesOf (c .before .before .before .before .before .args .message) (now (c .before .before .before .before .before .args .buffer))) ≡ c .written-length .result
-long c w = length-bytes (c .before .before .before .before .before .args .message) (now (c .before .before .before .before .before .args .buffer)) (writes-of (c .before .before .before .before .before .args .message) (now (c .before .before .before .before .before .args .buffer)) w) (sixteen (c .before .before .before .before .before)) (buffer-bytes (c .before .before)) ∙ sym (c .written-length .ensures)
+long c w = length-bytes (c .before .before .before .before .before .args .message) (now (c .before .before .before .before .before .args .buffer)) (writes-of (c .before .before .before .before .before .args .message) (now (c .before .before .before .before .before .args .buffer)) w) (typed (c .before .before .before .before .before) .octets-long) (buffer-bytes (c .before .before)) ∙ sym (c .written-length .ensures)
 
 asked : (c : tie.After-write-answer2) → c .write-answer2 .result ≡ writeAnswer (writable (c .before .before .before .before .before .before .args .message) (now (c .before .before .before .before .before .before .args .buffer))) (c .before .written-length .result) (length (now (c .before .before .before .before .before .before .args .out)))
 asked c = c .write-answer2 .ensures ∙ rw (is-ok (c .before .before))
