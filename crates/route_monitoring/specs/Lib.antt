@@ -1,0 +1,5 @@
+pub mod Grammar
+pub mod Warnings
+pub mod Shown
+pub mod Read
+pub mod Write

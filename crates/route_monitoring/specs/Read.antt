@@ -1,0 +1,22 @@
+-- What the reader answers, for every input.
+use mathlib.Core.List.{List}
+use Prim.Native.Nat.{ℕ}
+use lib.ListN.{length, take, drop}
+use lib.Dec.{ltb}
+use Rattle.wire.specs.Number as Number
+use Rattle.wire.specs.Bytes.{pick, numAt}
+use Rattle.wire.specs.Read.{refusal, cutAt}
+use Rattle.models.specs.declared.AsnLength.{AsnLength}
+use Rattle.peer.specs.declared.BmpPeerType.{BmpPeerType}
+use Rattle.route_monitoring.specs.Grammar.{Reading}
+use Rattle.route_monitoring.specs.Shown.{goodOf}
+use Rattle.route_monitoring.specs.declared.RouteMonitoringAnswer.{RouteMonitoringAnswer}
+
+-- an input taken apart, where it is long enough
+abbrev pub partsOf : List ℕ → Reading
+partsOf s = record { marker = take 16 s; size = numAt 2 s 16; kind = numAt 1 s 18; rest = drop 19 s }
+
+abbrev pub readRouteMonitoring : List ℕ → AsnLength → BmpPeerType → RouteMonitoringAnswer
+readRouteMonitoring s width t =
+    pick (ltb Number.limit (length s)) (RouteMonitoringAnswer.Refused (refusal Number.TooLong 0))
+    (pick (ltb (length s) 19) (RouteMonitoringAnswer.Refused (cutAt 0)) (goodOf width t (length s)))

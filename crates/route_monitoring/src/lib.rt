@@ -1,0 +1,93 @@
+// The body of a BMP Route Monitoring message (RFC 7854, section 4.6).
+use models::AsnLength;
+use peer::BmpPeerType;
+use wire::Refusal;
+use wire::View;
+use writing::WriteAnswer;
+ghost use mathlib.Core.Path.{_≡_};
+ghost use lib.ListN.{length};
+ghost use Rattle.writing.specs.Write.{writeAnswer, written};
+ghost use Rattle.route_monitoring.specs.Warnings.{warningsOf};
+ghost use Rattle.route_monitoring.specs.Read.{readRouteMonitoring};
+ghost use Rattle.route_monitoring.specs.Write.{viewWritable, writable, bytesOf};
+
+pub struct RouteMonitoring {
+    pub bgp_message: View,
+}
+
+// The message, the place after it and the warnings, or why there is none.
+pub enum RouteMonitoringAnswer {
+    Good(RouteMonitoring, usize, u32),
+    Refused(Refusal),
+}
+
+// The fewest bytes of a BGP message: its header (RFC 4271, section 4.1).
+const BGP_HEADER: usize = 19;
+
+// A warning's bit (docs/RULES.md, "Warnings"): the AS numbers of a Loc-RIB are said to have 16 bits.
+const SHORT_AS: u32 = 4;
+
+pub fn parse_route_monitoring(
+    s: &[u8],
+    asn_len: AsnLength,
+    peer_type: BmpPeerType,
+) -> RouteMonitoringAnswer
+    ensures { λ r. ⌜ r ≡ readRouteMonitoring (now (s .entry)) «asn_len» «peer_type» ⌝ }
+{
+    if wire::LIMIT < s.len() {
+        let refusal = Refusal {
+            number: wire::TOO_LONG,
+            place: 0,
+        };
+        return RouteMonitoringAnswer::Refused(refusal);
+    }
+    if s.len() < BGP_HEADER {
+        return RouteMonitoringAnswer::Refused(wire::cut_at(0));
+    }
+    let message = RouteMonitoring {
+        bgp_message: View {
+            place: 0,
+            length: s.len(),
+        },
+    };
+    RouteMonitoringAnswer::Good(message, s.len(), warnings_of(asn_len, peer_type))
+}
+
+fn warnings_of(asn_len: AsnLength, peer_type: BmpPeerType) -> u32
+    ensures { λ r. ⌜ r ≡ warningsOf «asn_len» «peer_type» ⌝ }
+{
+    if peer_type.number() != peer::LOCAL_RIB {
+        return 0;
+    }
+    match asn_len {
+        AsnLength::Bits16 => SHORT_AS,
+        AsnLength::Bits32 => 0,
+    }
+}
+
+pub fn write_route_monitoring(
+    message: RouteMonitoring,
+    buffer: &[u8],
+    out: &mut [u8],
+) -> WriteAnswer
+    ensures { λ r. ⌜ r ≡ writeAnswer (writable message (length (now (buffer .entry)))) (length (bytesOf message (now (buffer .entry)))) (length (now (out .entry))) ⌝ }
+    ensures { λ _. ⌜ now (out .exit) ≡ written (writable message (length (now (buffer .entry)))) (bytesOf message (now (buffer .entry))) (now (out .entry)) ⌝ }
+{
+    let view = message.bgp_message;
+    let part = view.part(buffer);
+    let answer = writing::write_answer(is_writable(view, buffer.len()), part.len(), out.len());
+    let WriteAnswer::Written(_) = answer else {
+        return answer;
+    };
+    writing::put_bytes(out, 0, part);
+    answer
+}
+
+fn is_writable(view: View, room: usize) -> bool
+    ensures { λ r. ⌜ r ≡ viewWritable view room ⌝ }
+{
+    if BGP_HEADER <= view.length {
+        return view.is_inside(room);
+    }
+    false
+}
