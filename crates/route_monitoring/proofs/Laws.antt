@@ -65,7 +65,7 @@ pub record Accepted (s : List ℕ) : Type 0 where
   pub long : 19 ≤ length s
 
 module _ (s : List ℕ) (width : AsnLength) (t : BmpPeerType) where
-  pub accepted : refusalOf (readRouteMonitoring s width t) .number ≡ Number.Good → Accepted s
+  pub accepted : refusalOf (readRouteMonitoring width t s) .number ≡ Number.Good → Accepted s
   accepted e = go (ltb Number.limit (length s)) refl (ltb (length s) 19) refl e
     where
       no : {k : ℕ} → suc k ≡ 0 → Accepted s
@@ -79,7 +79,7 @@ module _ (s : List ℕ) (width : AsnLength) (t : BmpPeerType) where
       go false ha true hb q = no q
       go false ha false hb q = record { short = ltb-false Number.limit (length s) ha; long = ltb-false (length s) 19 hb }
 
-  pub shows-all : Accepted s → readRouteMonitoring s width t ≡ goodOf width t (length s)
+  pub shows-all : Accepted s → readRouteMonitoring width t s ≡ goodOf width t (length s)
   shows-all a = rw (le-ltb Number.limit (length s) (a .short), le-ltb (length s) 19 (a .long))
 
 -- ---- what `viewWritable` asks

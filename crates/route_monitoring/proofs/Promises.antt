@@ -35,17 +35,17 @@ module _ (width : AsnLength) (t : BmpPeerType) where
   pub record Shows (s : List ℕ) (r : Reading) : Type 0 where
     pub is-good : Good r
     pub joined : join r ≡ s
-    pub shown-so : readRouteMonitoring s width t ≡ shown width t r
+    pub shown-so : readRouteMonitoring width t s ≡ shown width t r
 
   -- What the reader accepts has a good reading, which it shows.
-  pub sound : (s : List ℕ) → Bytes s → refusalOf (readRouteMonitoring s width t) .number ≡ Number.Good → (r : Reading) × Shows s r
+  pub sound : (s : List ℕ) → Bytes s → refusalOf (readRouteMonitoring width t s) .number ≡ Number.Good → (r : Reading) × Shows s r
   sound s p e =
       let a = accepted s width t e in
       let n : length s ≡ 19 + length (partsOf s .rest) = omega (arith, length-drop 19 s, a .long) in
       (partsOf s, record { is-good = parts-good p (a .long); joined = join-parts p (a .long); shown-so = shows-all s width t a ∙ ap (goodOf width t) n })
 
   -- Every good reading is accepted, and shown.
-  pub complete : (r : Reading) → Good r → length (join r) ≤ Number.limit → readRouteMonitoring (join r) width t ≡ shown width t r
+  pub complete : (r : Reading) → Good r → length (join r) ≤ Number.limit → readRouteMonitoring width t (join r) ≡ shown width t r
   complete r g short =
       let n = length-join r g in
       shows-all (join r) width t (record { short = short; long = omega arith }) ∙ ap (goodOf width t) n
@@ -61,9 +61,9 @@ views width t r g = ap (λ (n : ℕ). viewed (join r) (view 0 n)) (sym (length-j
 -- ---- the writer
 -- the bytes s are read as the message m, whose view points into b, to their end
 pub record ReadsBack (width : AsnLength) (t : BmpPeerType) (m : RouteMonitoring) (b s : List ℕ) : Type 0 where
-  pub read-good : refusalOf (readRouteMonitoring s width t) .number ≡ Number.Good
-  pub whole : stopOf (readRouteMonitoring s width t) ≡ length s
-  pub same : Same m b (messageOf (readRouteMonitoring s width t)) s
+  pub read-good : refusalOf (readRouteMonitoring width t s) .number ≡ Number.Good
+  pub whole : stopOf (readRouteMonitoring width t s) ≡ length s
+  pub same : Same m b (messageOf (readRouteMonitoring width t s)) s
 
 long-bytes : (m : RouteMonitoring) (b : List ℕ) → m .«bgp_message» .place + m .«bgp_message» .length ≤ length b → length (bytesOf m b) ≡ m .«bgp_message» .length
 long-bytes m b h = ap length (viewed-inside b (m .«bgp_message») h) ∙ length-part b (m .«bgp_message» .place) (m .«bgp_message» .length) h
@@ -108,7 +108,7 @@ written-joined m b p w =
 
 -- ---- any two answers, and any two outputs, that the contracts allow are equal
 pub parse-determined : (s : List ℕ) (width : AsnLength) (t : BmpPeerType) (a b : RouteMonitoringAnswer)
-    → a ≡ readRouteMonitoring s width t → b ≡ readRouteMonitoring s width t → a ≡ b
+    → a ≡ readRouteMonitoring width t s → b ≡ readRouteMonitoring width t s → a ≡ b
 parse-determined s width t a b = determined
 
 pub write-determined : (m : RouteMonitoring) (b out : List ℕ) (r q : WriteAnswer) (o p : List ℕ)

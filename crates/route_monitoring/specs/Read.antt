@@ -16,7 +16,7 @@ use Rattle.route_monitoring.specs.declared.RouteMonitoringAnswer.{RouteM
 abbrev pub partsOf : List ℕ → Reading
 partsOf s = record { marker = take 16 s; size = numAt 2 s 16; kind = numAt 1 s 18; rest = drop 19 s }
 
-abbrev pub readRouteMonitoring : List ℕ → AsnLength → BmpPeerType → RouteMonitoringAnswer
-readRouteMonitoring s width t =
+abbrev pub readRouteMonitoring : AsnLength → BmpPeerType → List ℕ → RouteMonitoringAnswer
+readRouteMonitoring width t s =
     pick (ltb Number.limit (length s)) (RouteMonitoringAnswer.Refused (refusal Number.TooLong 0))
     (pick (ltb (length s) 19) (RouteMonitoringAnswer.Refused (cutAt 0)) (goodOf width t (length s)))

@@ -32,7 +32,7 @@ pub fn parse_route_monitoring(
     asn_len: AsnLength,
     peer_type: BmpPeerType,
 ) -> RouteMonitoringAnswer
-    ensures { λ r. ⌜ r ≡ readRouteMonitoring (now (s .entry)) «asn_len» «peer_type» ⌝ }
+    ensures { λ r. ⌜ r ≡ readRouteMonitoring «asn_len» «peer_type» (now (s .entry)) ⌝ }
 {
     if wire::LIMIT < s.len() {
         let refusal = Refusal {

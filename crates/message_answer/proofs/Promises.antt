@@ -1,0 +1,77 @@
+-- What a user of a message's number relies on. Assumes nothing.
+use Prim.Native.Nat.{ℕ, _≤_}
+use mathlib.Core.Path.{_≡_, refl, sym, ap, subst}
+use mathlib.Core.List.{List}
+use lib.ListN.{length}
+use Rattle.wire.specs.Number as Number
+use Rattle.wire.specs.Bytes.{Bytes}
+use Rattle.wire.proofs.Determined.{determined}
+use Rattle.common_header.specs.declared.BmpMsgType.{BmpMsgType}
+use Rattle.common_header.specs.declared.BmpMsgType.the-variants.{RouteMonitoring, StatisticsReport, PeerDownNotification, PeerUpNotification, InitiationMessage, TerminationMessage, RouteMirroringMessage}
+use Rattle.per_peer_header.specs.Grammar as Header
+use Rattle.initiation_message.specs.declared.InitiationAnswer.{InitiationAnswer}
+use Rattle.initiation_message.proofs.Promises as Initiation
+use Rattle.termination_message.specs.declared.TerminationAnswer.{TerminationAnswer}
+use Rattle.termination_message.proofs.Promises as Termination
+use Rattle.message_answer.specs.Grammar.{Body, Message, initiation, termination, of-a-peer, HasReading}
+use Rattle.message_answer.specs.Answer.{peerNumber, answerOf}
+use Rattle.message_answer.specs.declared.PeerBody.{PeerBody}
+use Rattle.message_answer.specs.declared.PeerBody.the-variants.{Monitoring, Statistics, Down, Up, Mirroring}
+use Rattle.message_answer.proofs.Header.{peer-good, peer-sound}
+use Rattle.message_answer.proofs.Bodies.{number-of, not-too-long, typeOf, body-sound, body-complete}
+
+-- ---- a number of 0 has a reading
+of-peer : (b : PeerBody) (s : List ℕ) → Bytes s → peerNumber b s ≡ Number.Good → HasReading (typeOf b) s
+of-peer b s p e =
+    let x = peer-sound b s p e in
+    record {
+      not-too-long = x .short;
+      message = of-a-peer (x .header) (x .header-good) (x .joined) (body-sound (x .header) b (x .header .tail) (x .header-good .tail-bytes) (x .body-number));
+    }
+
+pub answer-sound : (t : BmpMsgType) (s : List ℕ) → Bytes s → answerOf t s ≡ Number.Good → HasReading t s
+unfolding answerOf
+answer-sound RouteMonitoring s p e = of-peer Monitoring s p e
+answer-sound StatisticsReport s p e = of-peer Statistics s p e
+answer-sound PeerDownNotification s p e = of-peer Down s p e
+answer-sound PeerUpNotification s p e = of-peer Up s p e
+answer-sound InitiationMessage s p e =
+    let x = Initiation.sound s p e in
+    record {
+      not-too-long = not-too-long (λ (a : InitiationAnswer). a .refusal .number) _ _ (length s) refl e;
+      message = initiation (record { reading = x .0; is-good = x .1 .is-good; fits = x .1 .fits; joined = x .1 .joined });
+    }
+answer-sound TerminationMessage s p e =
+    let x = Termination.sound s p e in
+    record {
+      not-too-long = not-too-long (λ (a : TerminationAnswer). a .refusal .number) _ _ (length s) refl e;
+      message = termination (record { reading = x .0; is-good = x .1 .is-good; fits = x .1 .fits; joined = x .1 .joined });
+    }
+answer-sound RouteMirroringMessage s p e = of-peer Mirroring s p e
+
+-- ---- what has a reading has the number 0
+from-peer : (b : PeerBody) (s : List ℕ) (h : Header.Reading) → Header.Good h → Header.join h ≡ s → Body h (typeOf b) (h .tail)
+    → length s ≤ Number.limit → peerNumber b s ≡ Number.Good
+from-peer b s h g joined x short =
+    let n = subst (λ (l : List ℕ). length l ≤ Number.limit) (sym joined) short in
+    subst (λ (l : List ℕ). peerNumber b l ≡ Number.Good) joined (peer-good b h g n (body-complete h b (h .tail) x))
+
+pub answer-complete : (t : BmpMsgType) (s : List ℕ) → Message t s → length s ≤ Number.limit → answerOf t s ≡ Number.Good
+unfolding answerOf
+answer-complete RouteMonitoring s (of-a-peer h g joined x) n = from-peer Monitoring s h g joined x n
+answer-complete StatisticsReport s (of-a-peer h g joined x) n = from-peer Statistics s h g joined x n
+answer-complete PeerDownNotification s (of-a-peer h g joined x) n = from-peer Down s h g joined x n
+answer-complete PeerUpNotification s (of-a-peer h g joined x) n = from-peer Up s h g joined x n
+answer-complete InitiationMessage s (initiation x) n =
+    number-of (answerOf InitiationMessage) (λ r g f k. ap (λ (a : InitiationAnswer). a .refusal .number) (Initiation.complete r g f k)) x n
+answer-complete TerminationMessage s (termination x) n =
+    number-of (answerOf TerminationMessage) (λ r g f k. ap (λ (a : TerminationAnswer). a .refusal .number) (Termination.complete r g f k)) x n
+answer-complete RouteMirroringMessage s (of-a-peer h g joined x) n = from-peer Mirroring s h g joined x n
+
+-- The number is 0 exactly where header and body have readings that fit their tables, and there are not too many bytes.
+pub answer-good : (t : BmpMsgType) (s : List ℕ) → Bytes s → (answerOf t s ≡ Number.Good → HasReading t s) × (HasReading t s → answerOf t s ≡ Number.Good)
+answer-good t s p = (answer-sound t s p, λ x. answer-complete t s (x .message) (x .not-too-long))
+
+-- Any two answers that the contract allows are equal.
+pub answer-determined : (t : BmpMsgType) (s : List ℕ) (m n : ℕ) → m ≡ answerOf t s → n ≡ answerOf t s → m ≡ n
+answer-determined t s m n = determined
