@@ -1,3 +1,4 @@
 pub mod Header
 pub mod Bodies
+pub mod Small
 pub mod Promises

@@ -1,5 +1,5 @@
 -- What a user of a message's number relies on. Assumes nothing.
-use Prim.Native.Nat.{ℕ, _≤_}
+use Prim.Native.Nat.{ℕ, _≤_, _<_}
 use mathlib.Core.Path.{_≡_, refl, sym, ap, subst}
 use mathlib.Core.List.{List}
 use lib.ListN.{length}
@@ -18,6 +18,7 @@ use Rattle.message_answer.specs.Answer.{peerNumber, answerOf}
 use Rattle.message_answer.specs.declared.PeerBody.{PeerBody}
 use Rattle.message_answer.specs.declared.PeerBody.the-variants.{Monitoring, Statistics, Down, Up, Mirroring}
 use Rattle.message_answer.proofs.Header.{peer-good, peer-sound}
+use Rattle.message_answer.proofs.Small.{initiation-small, termination-small, peer-small}
 use Rattle.message_answer.proofs.Bodies.{number-of, not-too-long, typeOf, body-sound, body-complete}
 
 -- ---- a number of 0 has a reading
@@ -71,6 +72,17 @@ answer-complete RouteMirroringMessage s (of-a-peer h g joined x) n = from-peer M
 -- The number is 0 exactly where header and body have readings that fit their tables, and there are not too many bytes.
 pub answer-good : (t : BmpMsgType) (s : List ℕ) → Bytes s → (answerOf t s ≡ Number.Good → HasReading t s) × (HasReading t s → answerOf t s ≡ Number.Good)
 answer-good t s p = (answer-sound t s p, λ x. answer-complete t s (x .message) (x .not-too-long))
+
+-- The number is one byte.
+pub answer-small : (t : BmpMsgType) (s : List ℕ) → answerOf t s < 256
+unfolding answerOf
+answer-small RouteMonitoring s = peer-small Monitoring s
+answer-small StatisticsReport s = peer-small Statistics s
+answer-small PeerDownNotification s = peer-small Down s
+answer-small PeerUpNotification s = peer-small Up s
+answer-small InitiationMessage s = initiation-small s
+answer-small TerminationMessage s = termination-small s
+answer-small RouteMirroringMessage s = peer-small Mirroring s
 
 -- Any two answers that the contract allows are equal.
 pub answer-determined : (t : BmpMsgType) (s : List ℕ) (m n : ℕ) → m ≡ answerOf t s → n ≡ answerOf t s → m ≡ n

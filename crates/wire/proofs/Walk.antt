@@ -138,37 +138,52 @@ fill-accepts K (a ∷ l) n at table e c b t z h q =
         let j = i (omega arith) (rw r at q) in
         (omega arith, j .1)
 
--- ---- a refusal's number is not that of a good answer, where each fault's is not
+-- ---- what holds of the number of each fault, and of TooMany, holds of a refusal's number
+abbrev pub BadIn : {A : Type 0} → (ℕ → Type 0) → Step A → Type 0
+BadIn P stop = Unit {0}
+BadIn P (bad r) = P (r .number)
+BadIn P (item a) = Unit {0}
+
+abbrev pub FaultsIn : Kit → (ℕ → Type 0) → Type 0
+FaultsIn K P = (s : List ℕ) (r : Refusal) → K .step s ≡ bad r → P (r .number)
+
+pub faults-in : (K : Kit) (P : ℕ → Type 0) → ((s : List ℕ) → BadIn P (K .step s)) → FaultsIn K P
+faults-in K P m s r e = subst (BadIn P) e (m s)
+
+module _ (K : Kit) (P : ℕ → Type 0) (m : FaultsIn K P) (many : P Number.TooMany) where
+  walk-fault : (f : ℕ) (s : List ℕ) (r : Refusal) → walk K f s .end ≡ fault r → P (r .number)
+  unfolding walk
+  walk-fault zero s r e = let x : _≡_ {A = ℕ} 0 1 = cc in absurd (omega arith)
+  walk-fault (suc f) s r e = go (K .step s) refl (λ a. walk-fault f (drop (K .size a) s) r) e
+    where
+      go : (x : Step (K .Item)) → K .step s ≡ x → ((a : K .Item) → walk K f (drop (K .size a) s) .end ≡ fault r → P (r .number))
+          → next x s (λ a. walk K f (drop (K .size a) s)) .end ≡ fault r → P (r .number)
+      go stop h i q = let x : _≡_ {A = ℕ} 0 1 = cc in absurd (omega arith)
+      go (bad d) h i q = let y : d ≡ r = cc in subst (λ (j : Refusal). P (j .number)) y (m s d h)
+      go (item a) h i q = i a q
+
+  fill-fault : (l : List (K .Item)) (n at : ℕ) (table : List (K .Entry)) (e : End) (r : Refusal)
+      → ((d : Refusal) → e ≡ fault d → P (d .number)) → fill K n at table l e ≡ refused r → P (r .number)
+  unfolding fill
+  fill-fault [] n at table (tail z) r h q = let x : _≡_ {A = ℕ} 0 1 = cc in absurd (omega arith)
+  fill-fault [] n at table (fault d) r h q = let y : from at d ≡ r = cc in subst (λ (j : Refusal). P (j .number)) y (h d refl)
+  fill-fault (a ∷ l) n at table e r h q =
+      go (leb (K .limit) n) refl (fill-fault l (n + 1) (at + K .size a) (set table n (K .entry at a)) e r h)
+    where
+      go : (d : Bool) → leb (K .limit) n ≡ d → (fill K (n + 1) (at + K .size a) (set table n (K .entry at a)) l e ≡ refused r → P (r .number)) → P (r .number)
+      go true v i = let y : refusal Number.TooMany at ≡ r = cc in subst (λ (j : Refusal). P (j .number)) y many
+      go false v i = i (rw v at q)
+
+  pub fault-in : (f at : ℕ) (s : List ℕ) (r : Refusal) → readFrom K f at s ≡ refused r → P (r .number)
+  fault-in f at s r e =
+      fill-fault (walk K f (drop at s) .items) 0 at (replicate (K .limit) (K .none)) (walk K f (drop at s) .end) r (walk-fault f (drop at s)) e
+
+-- a refusal's number is not that of a good answer, where each fault's is not
 abbrev pub Faults : Kit → Type 0
-Faults K = (s : List ℕ) (r : Refusal) → K .step s ≡ bad r → 0 < r .number
-
-walk-fault : (K : Kit) → Faults K → (f : ℕ) (s : List ℕ) (r : Refusal) → walk K f s .end ≡ fault r → 0 < r .number
-unfolding walk
-walk-fault K m zero s r e = let x : _≡_ {A = ℕ} 0 1 = cc in absurd (omega arith)
-walk-fault K m (suc f) s r e = go (K .step s) refl (λ a. walk-fault K m f (drop (K .size a) s) r) e
-  where
-    go : (x : Step (K .Item)) → K .step s ≡ x → ((a : K .Item) → walk K f (drop (K .size a) s) .end ≡ fault r → 0 < r .number)
-        → next x s (λ a. walk K f (drop (K .size a) s)) .end ≡ fault r → 0 < r .number
-    go stop h i q = let x : _≡_ {A = ℕ} 0 1 = cc in absurd (omega arith)
-    go (bad d) h i q = let y : d ≡ r = cc in subst (λ (j : Refusal). 0 < j .number) y (m s d h)
-    go (item a) h i q = i a q
-
-fill-fault : (K : Kit) (l : List (K .Item)) (n at : ℕ) (table : List (K .Entry)) (e : End) (r : Refusal)
-    → ((d : Refusal) → e ≡ fault d → 0 < d .number) → fill K n at table l e ≡ refused r → 0 < r .number
-unfolding fill
-fill-fault K [] n at table (tail z) r h q = let x : _≡_ {A = ℕ} 0 1 = cc in absurd (omega arith)
-fill-fault K [] n at table (fault d) r h q = let y : from at d ≡ r = cc in subst (λ (j : Refusal). 0 < j .number) y (h d refl)
-fill-fault K (a ∷ l) n at table e r h q =
-    go (leb (K .limit) n) refl (fill-fault K l (n + 1) (at + K .size a) (set table n (K .entry at a)) e r h)
-  where
-    go : (d : Bool) → leb (K .limit) n ≡ d → (fill K (n + 1) (at + K .size a) (set table n (K .entry at a)) l e ≡ refused r → 0 < r .number) → 0 < r .number
-    go true v i = let y : refusal Number.TooMany at ≡ r = cc in subst (λ (j : Refusal). 0 < j .number) y (omega arith)
-    go false v i = i (rw v at q)
+Faults K = FaultsIn K (λ n. 0 < n)
 
 pub read-fault : (K : Kit) → Faults K → (f at : ℕ) (s : List ℕ) (r : Refusal) → readFrom K f at s ≡ refused r → 0 < r .number
-read-fault K m f at s r e =
-    fill-fault K (walk K f (drop at s) .items) 0 at (replicate (K .limit) (K .none)) (walk K f (drop at s) .end) r
-    (walk-fault K m f (drop at s)) e
+read-fault K m = fault-in K (λ n. 0 < n) m (omega arith)
 
 -- ---- the walk and a grammar of its items: `put` and what makes an item good
 pub record Laws (K : Kit) (put : K .Item → List ℕ → List ℕ) (G : K .Item → List ℕ → Type 0) : Type 0 where
