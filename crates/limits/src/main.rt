@@ -14,6 +14,8 @@ const ROOM: usize = 1_048_577;
 // What stands in an output before it is lent to a writer.
 const UNTOUCHED: u8 = 0xA5;
 
+const KINDS: usize = 10;
+
 fn main() {
     let mut bytes = [0u8; ROOM];
     let mut out = [0u8; ROOM];
@@ -91,22 +93,33 @@ fn try_received_open(size: u16, bytes: &mut [u8]) {
 }
 
 fn try_slices(bytes: &mut [u8]) {
-    try_slice(Kind::Common, bytes);
-    try_slice(Kind::PerPeer, bytes);
-    try_slice(Kind::OpenBmp, bytes);
-    try_slice(Kind::Stats, bytes);
-    try_slice(Kind::Initiation, bytes);
-    try_slice(Kind::Termination, bytes);
-    try_slice(Kind::Mirroring, bytes);
-    try_slice(Kind::PeerUp, bytes);
-    try_slice(Kind::PeerDown, bytes);
-    try_slice(Kind::Monitoring, bytes);
+    let mut i: usize = 0;
+    while i < KINDS {
+        try_slice(kind_at(i), bytes);
+        i += 1;
+    }
 }
 
 fn try_slice(kind: Kind, bytes: &mut [u8]) {
     put_whole(kind, bytes);
     try_read(kind, b" slice ", wire::LIMIT, front(bytes, wire::LIMIT));
     try_read(kind, b" slice ", ROOM, front(bytes, ROOM));
+}
+
+// The order of the lines: headers, tables, and records of one view.
+fn kind_at(i: usize) -> Kind {
+    match i {
+        0 => Kind::Common,
+        1 => Kind::PerPeer,
+        2 => Kind::OpenBmp,
+        3 => Kind::Stats,
+        4 => Kind::Initiation,
+        5 => Kind::Termination,
+        6 => Kind::Mirroring,
+        7 => Kind::PeerUp,
+        8 => Kind::PeerDown,
+        _ => Kind::Monitoring,
+    }
 }
 
 fn try_read(kind: Kind, what: &[u8], n: usize, s: &[u8]) {
@@ -145,30 +158,12 @@ fn split(s: &[u8]) -> Answer {
     }
 }
 
-// A record with a table or a view can be as long as a slice can be; the headers come first, whose longest is shorter.
 fn try_writers(bytes: &mut [u8], out: &mut [u8]) {
-    try_header_writers(bytes, out);
-    try_table_writers(bytes, out);
-    try_view_writers(bytes, out);
-}
-
-fn try_header_writers(bytes: &mut [u8], out: &mut [u8]) {
-    try_writer(Kind::Common, bytes, out);
-    try_writer(Kind::PerPeer, bytes, out);
-    try_writer(Kind::OpenBmp, bytes, out);
-}
-
-fn try_table_writers(bytes: &mut [u8], out: &mut [u8]) {
-    try_writer(Kind::Stats, bytes, out);
-    try_writer(Kind::Initiation, bytes, out);
-    try_writer(Kind::Termination, bytes, out);
-    try_writer(Kind::Mirroring, bytes, out);
-    try_writer(Kind::PeerUp, bytes, out);
-}
-
-fn try_view_writers(bytes: &mut [u8], out: &mut [u8]) {
-    try_writer(Kind::PeerDown, bytes, out);
-    try_writer(Kind::Monitoring, bytes, out);
+    let mut i: usize = 0;
+    while i < KINDS {
+        try_writer(kind_at(i), bytes, out);
+        i += 1;
+    }
 }
 
 fn try_writer(kind: Kind, bytes: &mut [u8], out: &mut [u8]) {
@@ -198,11 +193,7 @@ fn try_too_long(kind: Kind, bytes: &[u8], out: &mut [u8]) {
 
 fn try_write(kind: Kind, length: usize, room: usize, bytes: &[u8], out: &mut [u8]) {
     put_untouched(out);
-    print(b"write ");
-    print_kind(kind);
-    print(b" ");
-    print_number(length);
-    print_case(b" into ", room);
+    print_write(kind, length, room);
     let lent = front_mut(out, room);
     let answer = limit_records::write(kind, wire::LIMIT < length, bytes, lent);
     print_written(answer, bytes, out);
@@ -345,6 +336,14 @@ fn print_kind(kind: Kind) {
         Kind::PeerDown => print(b"peerdown"),
         Kind::Monitoring => print(b"monitoring"),
     }
+}
+
+fn print_write(kind: Kind, length: usize, room: usize) {
+    print(b"write ");
+    print_kind(kind);
+    print(b" ");
+    print_number(length);
+    print_case(b" into ", room);
 }
 
 fn print_case(what: &[u8], n: usize) {
