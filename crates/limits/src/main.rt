@@ -62,7 +62,11 @@ fn try_lengths(bytes: &mut [u8]) {
 }
 
 fn try_bytes(kind: Kind, n: usize, bytes: &[u8]) {
-    try_read(kind, b" bytes ", n, front(bytes, n));
+    try_front(kind, b" bytes ", n, bytes);
+}
+
+fn try_front(kind: Kind, what: &[u8], n: usize, bytes: &[u8]) {
+    try_read(kind, what, n, front(bytes, n));
 }
 
 fn try_embedded_lengths(bytes: &mut [u8]) {
@@ -102,8 +106,8 @@ fn try_slices(bytes: &mut [u8]) {
 
 fn try_slice(kind: Kind, bytes: &mut [u8]) {
     put_whole(kind, bytes);
-    try_read(kind, b" slice ", wire::LIMIT, front(bytes, wire::LIMIT));
-    try_read(kind, b" slice ", ROOM, front(bytes, ROOM));
+    try_front(kind, b" slice ", wire::LIMIT, bytes);
+    try_front(kind, b" slice ", ROOM, bytes);
 }
 
 // The order of the lines: headers, tables, and records of one view.
