@@ -65,14 +65,22 @@ def put_lines(lines):
         sys.stdout.buffer.write(line.encode("ascii") + b"\n")
 
 
+def list_file(name):
+    """The name on a line, and the listing; one line that says so where there is no such file."""
+    if not os.path.exists(name):
+        sys.stdout.buffer.write(os.fsencode(name) + b": cannot be opened; check the name, and that you may read the file\n")
+        return
+    sys.stdout.buffer.write(os.fsencode(name) + b"\n")
+    with open(name, "rb") as file:
+        put_lines(listing(file.read()))
+
+
 def main():
     names = sys.argv[1:]
     if not names:
         put_lines(listing(sys.stdin.buffer.read()))
     for name in names:
-        sys.stdout.buffer.write(os.fsencode(name) + b"\n")
-        with open(name, "rb") as file:
-            put_lines(listing(file.read()))
+        list_file(name)
 
 
 if __name__ == "__main__":

@@ -23,7 +23,7 @@ use Rattle.common_header.specs.declared.BmpMsgType.{BmpMsgType}
 use Rattle.common_header.specs.declared.BmpMsgType.the-variants.{RouteMonitoring, StatisticsReport, PeerDownNotification, PeerUpNotification, InitiationMessage, TerminationMessage, RouteMirroringMessage}
 use Rattle.common_header.specs.declared.BmpCommonHeader.{BmpCommonHeader}
 use Rattle.common_header.specs.declared.CommonHeaderAnswer.{CommonHeaderAnswer}
-use Rattle.common_header.proofs.Laws.{length-join, parts-join, join-parts, Accepted, accepted, shows-parts}
+use Rattle.common_header.proofs.Laws.{length-join, parts-join, join-parts, Accepted, accepted, shows-parts, number-at-most}
 
 -- the answer to s shows r, and r is a good reading of s
 pub record Shows (s : List ℕ) (r : Reading) : Type 0 where
@@ -55,6 +55,10 @@ complete r g short =
       known = subst (λ (q : Reading). q .kind ≤ 6) (sym e) (g .kind-known);
     } in
     shows-parts (join r) a ∙ ap shown e
+
+-- A refusal has one of the numbers 1 to 4.
+pub refused-at-most : (s : List ℕ) → refusalOf (readCommonHeader s) .number ≤ Number.UnknownKind
+refused-at-most = number-at-most
 
 -- No input has two readings.
 pub unique : (r q : Reading) → Good r → Good q → join r ≡ join q → r ≡ q

@@ -20,7 +20,7 @@ use Rattle.splitter.specs.Grammar.{Reading, headerOf, join, Good}
 use Rattle.splitter.specs.Shown.{shown, refusalOf, messageOf, commonHeaderOf}
 use Rattle.splitter.specs.Split.{afterHeader, splitOf}
 use Rattle.splitter.specs.declared.SplitAnswer.{SplitAnswer}
-use Rattle.splitter.proofs.Laws.{Fitting, fitting-shown, judged-good, header-accepted, cut-at, header-cut, cut-header}
+use Rattle.splitter.proofs.Laws.{Fitting, fitting-shown, judged-good, header-accepted, after-at-most, cut-at, header-cut, cut-header}
 
 -- the answer to s shows r, and r is a good reading of s
 pub record Shows (s : List ℕ) (r : Reading) : Type 0 where
@@ -68,6 +68,10 @@ pub unique : (r q : Reading) → Good r → Good q → join r ≡ join q → r �
 unique r q g h e =
     sym (cut-header r (g .length-is)) ∙ ap cut-at (HeaderPromises.unique (headerOf r) (headerOf q) (g .header-good) (h .header-good) e)
     ∙ cut-header q (h .length-is)
+
+-- A refusal has one of the numbers 1 to 4, or 10.
+pub refused-at-most : (s : List ℕ) → refusalOf (splitOf s) .number ≤ Number.BadMessageLength
+refused-at-most s = after-at-most (length s) (readCommonHeader s) (HeaderPromises.refused-at-most s)
 
 -- Where the splitter is good, the message that it hands out is the first bytes of the stream, as many as the header's length says.
 pub first-bytes : (s : List ℕ) → Bytes s → refusalOf (splitOf s) .number ≡ Number.Good

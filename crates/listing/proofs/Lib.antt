@@ -1,0 +1,9 @@
+pub mod Puts
+pub mod Rows
+pub mod Lengths
+pub mod Lists
+pub mod Found
+pub mod Whole
+pub mod Messages
+pub mod Promises
+pub mod Specimens

@@ -1,0 +1,71 @@
+-- What a user of the listing relies on. Assumes nothing.
+use mathlib.Core.Path.{_≡_, refl, sym, ap, _∙_, subst}
+use mathlib.Core.Bool.{true}
+use mathlib.Core.List.{List, _++_}
+use Prim.Native.Nat.{ℕ, _≤_, _<_}
+use native.Mathlib.Omega.{arith}
+use borrow.Author.Tests.{lt-ltb, le-ltb}
+use lib.ListN.{length, drop}
+use Rattle.wire.specs.Number as Number
+use Rattle.wire.specs.Read.{refusal}
+use Rattle.wire.specs.Bytes.{Bytes}
+use Rattle.wire.proofs.Bytes.{bytes-take, bytes-drop}
+use Rattle.wire.proofs.Determined.{determined}
+use Rattle.writing.specs.Write.{writeAnswer, written, after}
+use Rattle.writing.specs.declared.WriteAnswer.{WriteAnswer}
+use Rattle.writing.specs.declared.WriteAnswer.the-variants.{Written, Refused}
+use Rattle.writing.proofs.Answers.{does-write}
+use Rattle.message_answer.specs.Grammar.{HasReading}
+use Rattle.message_answer.proofs.Promises as MessageAnswer
+use Rattle.listing.specs.Listing.{longest, Message, answer, found, text, enough}
+use Rattle.listing.proofs.Lengths.{text-short}
+use Rattle.listing.proofs.Messages.{Stands, Each, Walks, walks, each-so}
+
+-- ---- the answer and the output of list_messages
+module _ (s out out′ : List ℕ) (r : WriteAnswer) (answered : r ≡ writeAnswer true (length (text s)) (length out)) (left : out′ ≡ written true (text s) out) where
+  output : out′ ≡ after r (text s) out
+  output = left ∙ ap (λ (x : WriteAnswer). after x (text s) out) (sym answered)
+
+  -- Where the output has room for the text, the text stands at its start, and nothing past it differs.
+  pub lists : length (text s) ≤ length out → (r ≡ Written (length (text s))) × (out′ ≡ text s ++ drop (length (text s)) out)
+  lists h =
+      let e : r ≡ Written (length (text s)) = answered ∙ does-write true (length (text s)) (length out) refl (omega (arith, text-short s)) h in
+      (e, output ∙ ap (λ (x : WriteAnswer). after x (text s) out) e)
+
+  -- Where it has not, the answer is NoRoom and no byte differs: there is no other refusal.
+  pub no-room : length out < length (text s) → (r ≡ Refused (refusal Number.NoRoom 0)) × (out′ ≡ out)
+  no-room h =
+      let e : r ≡ Refused (refusal Number.NoRoom 0) =
+      answered ∙ rw (le-ltb Number.limit (length (text s)) (omega (arith, text-short s)), lt-ltb (length out) (length (text s)) h) in
+      (e, output ∙ ap (λ (x : WriteAnswer). after x (text s) out) e)
+
+-- An output of `enough` bytes has room for the listing of any stream, also of one that is too long.
+pub size-suffices : (s : List ℕ) → length (text s) ≤ enough
+size-suffices = text-short
+
+-- ---- the messages that are listed
+-- In a stream that is not too long, the splitter hands out each listed message at its place; the messages and then what stands
+-- from the last line's place on are the stream; and there nothing is left, or the splitter refuses with the number listed.
+pub messages : (s : List ℕ) → length s ≤ longest → Walks s 0 (found s)
+messages s h = rw (le-ltb longest (length s) h) (walks (length s) 0 s (omega arith) (omega arith))
+
+-- A line's answer is 0 exactly where what follows the message's common header has a reading: its per-peer header and its body, by
+-- their grammars, and both fit the tables.
+abbrev pub GoodIfRead : ℕ → Message → Type 0
+GoodIfRead at m =
+    (answer m ≡ Number.Good → HasReading (m .header .«msg_type») (drop 6 (m .bytes)))
+    × (HasReading (m .header .«msg_type») (drop 6 (m .bytes)) → answer m ≡ Number.Good)
+
+pub answer-good : (s : List ℕ) → Bytes s → length s ≤ longest → Each GoodIfRead 0 (found s .items)
+answer-good s p h = each-so (Stands s) GoodIfRead good 0 (found s .items) (messages s h .each)
+  where
+    good : (at : ℕ) (m : Message) → Stands s at m → GoodIfRead at m
+    good at m x =
+        MessageAnswer.answer-good (m .header .«msg_type») (drop 6 (m .bytes))
+        (bytes-drop 6 (subst Bytes (sym (x .bytes-are)) (bytes-take (m .header .«msg_len») (bytes-drop at p))))
+
+-- ---- any two answers, and any two outputs, that the contract allows are equal
+pub list-determined : (s out : List ℕ) (r q : WriteAnswer) (out′ out″ : List ℕ)
+    → r ≡ writeAnswer true (length (text s)) (length out) → q ≡ writeAnswer true (length (text s)) (length out)
+    → out′ ≡ written true (text s) out → out″ ≡ written true (text s) out → (r ≡ q) × (out′ ≡ out″)
+list-determined s out r q out′ out″ er eq eo eo′ = (determined er eq, determined eo eo′)

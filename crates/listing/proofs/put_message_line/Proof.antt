@@ -1,0 +1,76 @@
+use borrow.Author.Needs.{needs}
+use mathlib.Core.List.{[], _∷_, _++_}
+use native.Mathlib.Omega.{arith}
+use denote.Ref.{now}
+use Rattle.decimal.specs.Decimal.{decimal}
+use Rattle.listing.proofs.Puts.{field-then}
+use Rattle.listing.proofs.Lengths.{length-field, length-message}
+use Rattle.listing.proofs.put_message_line.Statement.{statement}
+use Rattle.listing.proofs.put_message_line.Tie as tie
+
+put-field-requires : tie.Need-put-field-requires
+put-field-requires c κs =
+    omega (arith, c .before .before .pre, length-message (c .before .before .args .place) (c .before .before .args .kind) (c .before .before .args .msg-len) (c .before .before .args .answer), length-field (decimal (c .before .before .args .place)) 32)
+
+put-field-requires-2 : tie.Need-put-field-requires-2
+put-field-requires-2 c κs =
+    omega (
+      arith,
+      c .before .before .before .before .before .before .pre,
+      length-message (c .before .before .before .before .before .before .args .place) (c .before .before .before .before .before .before .args .kind) (c .before .before .before .before .before .before .args .msg-len) (c .before .before .before .before .before .before .args .answer),
+      c .before .before .before .put-field .ensures .0,
+      length-field (decimal (c .before .before .before .before .before .before .args .place)) 32,
+      length-field (decimal (c .before .before .before .before .before .before .args .kind)) 32,
+    )
+
+put-field-requires-3 : tie.Need-put-field-requires-3
+put-field-requires-3 c κs =
+    omega (
+      arith,
+      c .before .before .before .before .before .before .before .before .before .before .pre,
+      length-message (c .before .before .before .before .before .before .before .before .before .before .args .place) (c .before .before .before .before .before .before .before .before .before .before .args .kind) (c .before .before .before .before .before .before .before .before .before .before .args .msg-len) (c .before .before .before .before .before .before .before .before .before .before .args .answer),
+      c .before .before .before .before .before .before .before .put-field .ensures .0,
+      c .before .before .before .put-field2 .ensures .0,
+      length-field (decimal (c .before .before .before .before .before .before .before .before .before .before .args .place)) 32,
+      length-field (decimal (c .before .before .before .before .before .before .before .before .before .before .args .kind)) 32,
+      length-field (decimal (c .before .before .before .before .before .before .before .before .before .before .args .msg-len)) 32,
+    )
+
+put-field-requires-4 : tie.Need-put-field-requires-4
+put-field-requires-4 c κs =
+    omega (
+      arith,
+      c .before .before .before .before .before .before .before .before .before .before .before .before .before .before .pre,
+      length-message (c .before .before .before .before .before .before .before .before .before .before .before .before .before .before .args .place) (c .before .before .before .before .before .before .before .before .before .before .before .before .before .before .args .kind) (c .before .before .before .before .before .before .before .before .before .before .before .before .before .before .args .msg-len) (c .before .before .before .before .before .before .before .before .before .before .before .before .before .before .args .answer),
+      c .before .before .before .before .before .before .before .before .before .before .before .put-field .ensures .0,
+      c .before .before .before .before .before .before .before .put-field2 .ensures .0,
+      c .before .before .before .put-field3 .ensures .0,
+      length-field (decimal (c .before .before .before .before .before .before .before .before .before .before .before .before .before .before .args .place)) 32,
+      length-field (decimal (c .before .before .before .before .before .before .before .before .before .before .before .before .before .before .args .kind)) 32,
+      length-field (decimal (c .before .before .before .before .before .before .before .before .before .before .before .before .before .before .args .msg-len)) 32,
+      length-field (decimal (c .before .before .before .before .before .before .before .before .before .before .before .before .before .before .args .answer)) 10,
+    )
+
+same-length : tie.Need-same-length
+same-length c = search needs
+
+returns : tie.Need-returns
+returns c =
+    let kind = decimal (c .before .before .before .before .before .before .before .before .before .before .before .before .before .before .before .before .before .args .kind) in
+    let msg-len = decimal (c .before .before .before .before .before .before .before .before .before .before .before .before .before .before .before .before .before .args .msg-len) in
+    let answer = decimal (c .before .before .before .before .before .before .before .before .before .before .before .before .before .before .before .before .before .args .answer) in
+    field-then (now (c .before .before .before .before .before .before .before .before .before .before .before .before .before .before .before .before .before .args .out)) (c .before .before .before .before .before .before .before .before .before .before .before .before .before .before .put-field .last .0) (c .before .before .put-field4 .last .0) (decimal (c .before .before .before .before .before .before .before .before .before .before .before .before .before .before .before .before .before .args .place)) 32 (kind ++ (32 ∷ (msg-len ++ (32 ∷ (answer ++ (10 ∷ [])))))) (c .before .before .before .before .before .before .before .before .before .before .before .before .before .before .before .before .before .args .at) (c .before .before .before .before .before .before .before .before .before .before .before .before .before .before .put-field .result) (c .before .before .put-field4 .result) (c .before .before .before .before .before .before .before .before .before .before .before .before .before .before .put-field .kept .0) (c .before .before .before .before .before .before .before .before .before .before .before .before .before .before .put-field .ensures)
+    (field-then (c .before .before .before .before .before .before .before .before .before .before .before .before .before .before .put-field .last .0) (c .before .before .before .before .before .before .before .before .before .before .put-field2 .last .0) (c .before .before .put-field4 .last .0) kind 32 (msg-len ++ (32 ∷ (answer ++ (10 ∷ [])))) (c .before .before .before .before .before .before .before .before .before .before .before .before .before .before .put-field .result) (c .before .before .before .before .before .before .before .before .before .before .put-field2 .result) (c .before .before .put-field4 .result) (c .before .before .before .before .before .before .before .before .before .before .put-field2 .kept .0) (c .before .before .before .before .before .before .before .before .before .before .put-field2 .ensures)
+    (field-then (c .before .before .before .before .before .before .before .before .before .before .put-field2 .last .0) (c .before .before .before .before .before .before .put-field3 .last .0) (c .before .before .put-field4 .last .0) msg-len 32 (answer ++ (10 ∷ [])) (c .before .before .before .before .before .before .before .before .before .before .put-field2 .result) (c .before .before .before .before .before .before .put-field3 .result) (c .before .before .put-field4 .result) (c .before .before .before .before .before .before .put-field3 .kept .0) (c .before .before .before .before .before .before .put-field3 .ensures)
+    (c .before .before .put-field4 .ensures)))
+
+pub put-message-line-spec : {M : Type 1} → statement M
+put-message-line-spec =
+    tie.close
+    (tie.spec
+    put-field-requires
+    put-field-requires-2
+    put-field-requires-3
+    put-field-requires-4
+    same-length
+    returns)
