@@ -1,0 +1,140 @@
+// What the answers to a line have in common (docs/REPLAY.md, "Output").
+use models::Afi;
+use wire::Refusal;
+use wire::View;
+use writing::WriteAnswer;
+ghost use Prim.Native.Nat.{_≤_};
+
+pub fn put_refused(out: &mut [u8], at: usize, refusal: Refusal) -> usize {
+    let numbers = [refusal.number as u64, refusal.place as u64];
+    put_form(out, at, b"refused # at #\n", &numbers, b"")
+}
+
+// The writer's answer, and the whole of its output afterwards.
+pub fn put_written(out: &mut [u8], at: usize, answer: WriteAnswer, written: &[u8]) -> usize {
+    match answer {
+        WriteAnswer::Refused(refusal) => put_refused(out, at, refusal),
+        WriteAnswer::Written(length) => {
+            let numbers = [length as u64, 0, written.len() as u64];
+            put_form(out, at, b"written # $\n", &numbers, written)
+        }
+    }
+}
+
+// An output of two bytes more than the tail's start, filled with a5. A tail starts within the line's bytes, so there is always room;
+// were there none, the writer would say so.
+pub fn filled(room: &mut [u8], tail: usize) -> &mut [u8] {
+    if wire::left(room, tail) < 2 {
+        return &mut room[0..0];
+    }
+    let end = tail + 2;
+    let mut i: usize = 0;
+    while i < end {
+        room[i] = 0xa5;
+        i += 1;
+    }
+    &mut room[0..end]
+}
+
+pub fn family(afi: Afi) -> u64 {
+    match afi {
+        Afi::Ipv4 => 4,
+        Afi::Ipv6 => 6,
+    }
+}
+
+// Eight of an address's sixteen bytes, as a number.
+pub fn half(octets: [u8; 16], at: usize) -> u64 {
+    wire::u64_at(&octets, at)
+}
+
+// Puts a form: its bytes as they stand, but for the marks, each of which takes the next of the numbers (docs/REPLAY.md, "Forms").
+pub fn put_form(out: &mut [u8], at: usize, form: &[u8], numbers: &[u64], body: &[u8]) -> usize {
+    let mut next = at;
+    let mut taken: usize = 0;
+    let mut i: usize = 0;
+    while i < form.len() {
+        let mark = form[i];
+        next = put_piece(out, next, mark, numbers, taken, body);
+        taken += takes(mark);
+        i += 1;
+    }
+    next
+}
+
+fn takes(mark: u8) -> usize
+    ensures { λ r. ⌜ r ≤ 2 ⌝ }
+{
+    match mark {
+        b'#' | b'%' | b'&' | b'@' | b'!' | b',' => 1,
+        b'$' => 2,
+        _ => 0,
+    }
+}
+
+fn put_piece(
+    out: &mut [u8],
+    at: usize,
+    mark: u8,
+    numbers: &[u64],
+    taken: usize,
+    body: &[u8],
+) -> usize {
+    let n = number_at(numbers, taken);
+    match mark {
+        b'#' => lines::put_decimal(out, at, n),
+        b'%' => put_hex_number(out, at, n, 7),
+        b'&' => put_hex_number(out, at, n, 4),
+        b'@' => put_hex_number(out, at, n, 0),
+        b'$' => put_part(out, at, body, n, numbers, taken),
+        b',' => put_comma(out, at, n),
+        b'!' => put_byte(out, at, n),
+        _ => put_byte(out, at, mark as u64),
+    }
+}
+
+fn number_at(numbers: &[u64], i: usize) -> u64 {
+    if i < numbers.len() {
+        return numbers[i];
+    }
+    0
+}
+
+fn put_byte(out: &mut [u8], at: usize, n: u64) -> usize {
+    let byte = [(n % 256) as u8];
+    lines::put_text(out, at, &byte)
+}
+
+fn put_comma(out: &mut [u8], at: usize, n: u64) -> usize {
+    if n == 0 {
+        return at;
+    }
+    lines::put_text(out, at, b",")
+}
+
+// The last bytes of the eight of a number, from this one on.
+fn put_hex_number(out: &mut [u8], at: usize, n: u64, from: usize) -> usize
+    requires { ⌜ from ≤ 8 ⌝ }
+{
+    let mut bytes = [0u8; 8];
+    writing::put_u64(&mut bytes, 0, n);
+    lines::put_hex(out, at, &bytes[from..8])
+}
+
+fn put_part(
+    out: &mut [u8],
+    at: usize,
+    body: &[u8],
+    place: u64,
+    numbers: &[u64],
+    taken: usize,
+) -> usize {
+    if numbers.len() <= taken {
+        return at;
+    }
+    let part = View {
+        place: place as usize,
+        length: number_at(numbers, taken + 1) as usize,
+    };
+    lines::put_hex(out, at, part.part(body))
+}

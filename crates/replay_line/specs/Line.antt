@@ -1,0 +1,121 @@
+-- The lines that the replay program takes (docs/REPLAY.md, "Input"): a verb, its arguments and digits, with a space between them.
+use Prim.Native.Nat.{ℕ, suc, _+_, _-_}
+use mathlib.Core.List.{List, [], _∷_}
+use lib.Dec.{eqb, leb}
+use lib.ListN.{length, take, drop}
+use Rattle.wire.specs.Bytes.{pick}
+use Rattle.wire.specs.View.{view}
+use Rattle.wire.specs.declared.View.{View}
+use Rattle.models.specs.declared.Afi.{Afi}
+use Rattle.models.specs.declared.Afi.the-variants.{Ipv4, Ipv6}
+use Rattle.models.specs.declared.AsnLength.{AsnLength}
+use Rattle.models.specs.declared.AsnLength.the-variants.{Bits16, Bits32}
+use Rattle.peer.specs.declared.BmpPeerType.{BmpPeerType}
+use Rattle.peer.specs.declared.BmpPeerType.the-variants.{Global, RD, Local, LocalRib}
+use Rattle.replay_line.specs.Words.{Row, row, word, starts, same, meaning}
+use Rattle.replay_line.specs.declared.Reader.{Reader}
+use Rattle.replay_line.specs.declared.Reader.the-variants.{Common, PerPeer, Stats, Initiation, Termination, PeerDown, OpenBmp, Mirroring, Monitoring, PeerUp}
+use Rattle.replay_line.specs.declared.Verb.{Verb}
+use Rattle.replay_line.specs.declared.Verb.the-variants.{Read, Rewrite, Split, Equal, Unknown}
+use Rattle.replay_line.specs.declared.Line.{Line}
+use Rattle.replay_line.specs.declared.Line.the-variants.{Empty, Bad, Good}
+use Rattle.replay_line.specs.declared.FoundReader.{FoundReader}
+use Rattle.replay_line.specs.declared.FoundArguments.{FoundArguments}
+
+abbrev pub readers : List (Row FoundReader)
+readers =
+    row "common" (FoundReader.Reader Common)
+    ∷ row "perpeer" (FoundReader.Reader PerPeer)
+    ∷ row "stats" (FoundReader.Reader Stats)
+    ∷ row "initiation" (FoundReader.Reader Initiation)
+    ∷ row "termination" (FoundReader.Reader Termination)
+    ∷ row "peerdown" (FoundReader.Reader PeerDown)
+    ∷ row "openbmp" (FoundReader.Reader OpenBmp)
+    ∷ row "mirroring" (FoundReader.Reader Mirroring)
+    ∷ row "monitoring" (FoundReader.Reader Monitoring)
+    ∷ row "peerup" (FoundReader.Reader PeerUp)
+    ∷ []
+
+unfoldable pub readerOf : List ℕ → FoundReader
+readerOf t = meaning readers FoundReader.Nothing t
+
+abbrev pub reading : FoundReader → Verb
+reading (FoundReader.Reader r) = Read r
+reading FoundReader.Nothing = Unknown
+
+abbrev pub rewriting : FoundReader → Verb
+rewriting (FoundReader.Reader r) = Rewrite r
+rewriting FoundReader.Nothing = Unknown
+
+unfoldable pub verbOf : List ℕ → Verb
+verbOf t =
+    pick (same t (word "split")) Split
+    (pick (same t (word "equal")) Equal
+    (pick (starts t (word "rewrite-")) (rewriting (readerOf (drop 8 t))) (reading (readerOf t))))
+
+abbrev pub found : Afi → AsnLength → BmpPeerType → FoundArguments
+found afi asn peer = FoundArguments.Arguments (record { afi = afi; «asn_len» = asn; «peer_type» = peer })
+
+-- asn=16|32,type=0|1|2|3, for a message of a family
+abbrev pub peers : Afi → List (Row FoundArguments)
+peers afi =
+    row "asn=16,type=0" (found afi Bits16 Global)
+    ∷ row "asn=16,type=1" (found afi Bits16 RD)
+    ∷ row "asn=16,type=2" (found afi Bits16 Local)
+    ∷ row "asn=16,type=3" (found afi Bits16 LocalRib)
+    ∷ row "asn=32,type=0" (found afi Bits32 Global)
+    ∷ row "asn=32,type=1" (found afi Bits32 RD)
+    ∷ row "asn=32,type=2" (found afi Bits32 Local)
+    ∷ row "asn=32,type=3" (found afi Bits32 LocalRib)
+    ∷ []
+
+unfoldable pub peerArguments : Afi → List ℕ → FoundArguments
+peerArguments afi t = meaning (peers afi) FoundArguments.Nothing t
+
+-- afi=4|6, before the same
+unfoldable pub sessionArguments : List ℕ → FoundArguments
+sessionArguments t =
+    pick (starts t (word "afi=4,")) (peerArguments Ipv4 (drop 6 t))
+    (pick (starts t (word "afi=6,")) (peerArguments Ipv6 (drop 6 t)) FoundArguments.Nothing)
+
+unfoldable pub noArguments : List ℕ → FoundArguments
+noArguments t = pick (same t (word "-")) (found Ipv4 Bits16 Global) FoundArguments.Nothing
+
+abbrev pub readerArguments : Reader → List ℕ → FoundArguments
+readerArguments Common t = noArguments t
+readerArguments PerPeer t = noArguments t
+readerArguments Stats t = noArguments t
+readerArguments Initiation t = noArguments t
+readerArguments Termination t = noArguments t
+readerArguments PeerDown t = noArguments t
+readerArguments OpenBmp t = noArguments t
+readerArguments Mirroring t = peerArguments Ipv4 t
+readerArguments Monitoring t = peerArguments Ipv4 t
+readerArguments PeerUp t = sessionArguments t
+
+abbrev pub argumentsOf : Verb → List ℕ → FoundArguments
+argumentsOf (Read r) t = readerArguments r t
+argumentsOf (Rewrite r) t = readerArguments r t
+argumentsOf Split t = noArguments t
+argumentsOf Equal t = noArguments t
+argumentsOf Unknown t = FoundArguments.Nothing
+
+abbrev pub lineWith : Verb → View → FoundArguments → Line
+lineWith verb digits (FoundArguments.Arguments a) = Good (record { verb = verb; arguments = a; digits = digits })
+lineWith verb digits FoundArguments.Nothing = Bad
+
+-- how many bytes stand before the first space, all of them where there is none
+unfoldable pub spaceIn : List ℕ → ℕ
+spaceIn [] = 0
+spaceIn (b ∷ l) = pick (eqb b 32) 0 (suc (spaceIn l))
+
+-- a line by its verb and, behind the first space, the rest
+abbrev pub behindVerb : Verb → ℕ → List ℕ → Line
+behindVerb verb first rest =
+    pick (leb (length rest) (spaceIn rest)) Bad
+    (lineWith verb (view (first + spaceIn rest + 2) (length rest - spaceIn rest - 1)) (argumentsOf verb (take (spaceIn rest) rest)))
+
+unfoldable pub lineOf : List ℕ → Line
+lineOf l =
+    pick (eqb (length l) 0) Empty
+    (pick (leb (length l) (spaceIn l)) Bad (behindVerb (verbOf (take (spaceIn l) l)) (spaceIn l) (drop (spaceIn l + 1) l)))

@@ -1,0 +1,358 @@
+// A line for the replay program, taken apart (docs/REPLAY.md, "Input").
+use models::Afi;
+use models::AsnLength;
+use peer::BmpPeerType;
+use wire::View;
+ghost use mathlib.Core.Path.{_≡_};
+ghost use Prim.Native.Nat.{_/_, _%_, _≤_};
+ghost use lib.ListN.{length};
+ghost use lib.Seq.{sets};
+ghost use Rattle.replay_line.specs.Words.{starts, same};
+ghost use Rattle.replay_line.specs.Line.{readerOf, reading, rewriting, verbOf, found, peerArguments, sessionArguments, noArguments, readerArguments, argumentsOf, lineWith, spaceIn, lineOf};
+ghost use Rattle.replay_line.specs.Digits.{digitValue, bytesOf, pairsFit, pairsUnhexed, unhexed, unhexedInto};
+
+pub enum Reader {
+    Common,
+    PerPeer,
+    Stats,
+    Initiation,
+    Termination,
+    PeerDown,
+    OpenBmp,
+    Mirroring,
+    Monitoring,
+    PeerUp,
+}
+
+pub enum Verb {
+    Read(Reader),
+    Rewrite(Reader),
+    Split,
+    Equal,
+    Unknown,
+}
+
+// What a line says beside its bytes. Where a verb takes no such argument, it is the first of its kind.
+pub struct Arguments {
+    pub afi: Afi,
+    pub asn_len: AsnLength,
+    pub peer_type: BmpPeerType,
+}
+
+// A verb, its arguments, and where in the line its digits stand.
+pub struct Command {
+    pub verb: Verb,
+    pub arguments: Arguments,
+    pub digits: View,
+}
+
+pub enum Line {
+    Empty,
+    Bad,
+    Good(Command),
+}
+
+// How many bytes digits write, or that they are none.
+pub enum Unhexed {
+    Bytes(usize),
+    Bad,
+}
+
+enum FoundReader {
+    Reader(Reader),
+    Nothing,
+}
+
+enum FoundArguments {
+    Arguments(Arguments),
+    Nothing,
+}
+
+pub fn take_apart(line: &[u8]) -> Line
+    ensures { λ r. ⌜ r ≡ lineOf (now (line .entry)) ⌝ }
+{
+    if line.len() == 0 {
+        return Line::Empty;
+    }
+    let first = space_in(line);
+    if line.len() <= first {
+        return Line::Bad;
+    }
+    let rest = &line[first + 1..];
+    let second = space_in(rest);
+    if rest.len() <= second {
+        return Line::Bad;
+    }
+    let digits = View {
+        place: first + second + 2,
+        length: rest.len() - second - 1,
+    };
+    command_of(verb_of(&line[0..first]), &rest[0..second], digits)
+}
+
+// The place of the first space, the length where there is none.
+fn space_in(s: &[u8]) -> usize
+    ensures { λ r. ⌜ (r ≡ spaceIn (now (s .entry))) × (r ≤ length (now (s .entry))) ⌝ }
+{
+    let mut i: usize = 0;
+    while i < s.len() {
+        if s[i] == b' ' {
+            return i;
+        }
+        i += 1;
+    }
+    i
+}
+
+fn command_of(verb: Verb, arguments: &[u8], digits: View) -> Line
+    ensures { λ r. ⌜ r ≡ lineWith verb digits (argumentsOf verb (now (arguments .entry))) ⌝ }
+{
+    let FoundArguments::Arguments(found) = arguments_of(verb, arguments) else {
+        return Line::Bad;
+    };
+    let command = Command {
+        verb: verb,
+        arguments: found,
+        digits: digits,
+    };
+    Line::Good(command)
+}
+
+fn verb_of(text: &[u8]) -> Verb
+    ensures { λ r. ⌜ r ≡ verbOf (now (text .entry)) ⌝ }
+{
+    if same(text, b"split") {
+        return Verb::Split;
+    }
+    if same(text, b"equal") {
+        return Verb::Equal;
+    }
+    if starts_with(text, b"rewrite-") {
+        return rewriting(reader_of(&text[8..]));
+    }
+    reading(reader_of(text))
+}
+
+fn reading(reader: FoundReader) -> Verb
+    ensures { λ r. ⌜ r ≡ reading reader ⌝ }
+{
+    match reader {
+        FoundReader::Reader(reader) => Verb::Read(reader),
+        FoundReader::Nothing => Verb::Unknown,
+    }
+}
+
+fn rewriting(reader: FoundReader) -> Verb
+    ensures { λ r. ⌜ r ≡ rewriting reader ⌝ }
+{
+    match reader {
+        FoundReader::Reader(reader) => Verb::Rewrite(reader),
+        FoundReader::Nothing => Verb::Unknown,
+    }
+}
+
+fn reader_of(text: &[u8]) -> FoundReader
+    ensures { λ r. ⌜ r ≡ readerOf (now (text .entry)) ⌝ }
+{
+    if same(text, b"common") {
+        return FoundReader::Reader(Reader::Common);
+    }
+    if same(text, b"perpeer") {
+        return FoundReader::Reader(Reader::PerPeer);
+    }
+    if same(text, b"stats") {
+        return FoundReader::Reader(Reader::Stats);
+    }
+    if same(text, b"initiation") {
+        return FoundReader::Reader(Reader::Initiation);
+    }
+    if same(text, b"termination") {
+        return FoundReader::Reader(Reader::Termination);
+    }
+    if same(text, b"peerdown") {
+        return FoundReader::Reader(Reader::PeerDown);
+    }
+    if same(text, b"openbmp") {
+        return FoundReader::Reader(Reader::OpenBmp);
+    }
+    if same(text, b"mirroring") {
+        return FoundReader::Reader(Reader::Mirroring);
+    }
+    if same(text, b"monitoring") {
+        return FoundReader::Reader(Reader::Monitoring);
+    }
+    if same(text, b"peerup") {
+        return FoundReader::Reader(Reader::PeerUp);
+    }
+    FoundReader::Nothing
+}
+
+fn arguments_of(verb: Verb, text: &[u8]) -> FoundArguments
+    ensures { λ r. ⌜ r ≡ argumentsOf verb (now (text .entry)) ⌝ }
+{
+    match verb {
+        Verb::Read(reader) => reader_arguments(reader, text),
+        Verb::Rewrite(reader) => reader_arguments(reader, text),
+        Verb::Split => no_arguments(text),
+        Verb::Equal => no_arguments(text),
+        Verb::Unknown => FoundArguments::Nothing,
+    }
+}
+
+fn reader_arguments(reader: Reader, text: &[u8]) -> FoundArguments
+    ensures { λ r. ⌜ r ≡ readerArguments reader (now (text .entry)) ⌝ }
+{
+    match reader {
+        Reader::Mirroring => peer_arguments(Afi::Ipv4, text),
+        Reader::Monitoring => peer_arguments(Afi::Ipv4, text),
+        Reader::PeerUp => session_arguments(text),
+        _ => no_arguments(text),
+    }
+}
+
+fn no_arguments(text: &[u8]) -> FoundArguments
+    ensures { λ r. ⌜ r ≡ noArguments (now (text .entry)) ⌝ }
+{
+    if same(text, b"-") {
+        return found(Afi::Ipv4, AsnLength::Bits16, BmpPeerType::Global);
+    }
+    FoundArguments::Nothing
+}
+
+fn session_arguments(text: &[u8]) -> FoundArguments
+    ensures { λ r. ⌜ r ≡ sessionArguments (now (text .entry)) ⌝ }
+{
+    if starts_with(text, b"afi=4,") {
+        return peer_arguments(Afi::Ipv4, &text[6..]);
+    }
+    if starts_with(text, b"afi=6,") {
+        return peer_arguments(Afi::Ipv6, &text[6..]);
+    }
+    FoundArguments::Nothing
+}
+
+fn peer_arguments(afi: Afi, text: &[u8]) -> FoundArguments
+    ensures { λ r. ⌜ r ≡ peerArguments afi (now (text .entry)) ⌝ }
+{
+    if same(text, b"asn=16,type=0") {
+        return found(afi, AsnLength::Bits16, BmpPeerType::Global);
+    }
+    if same(text, b"asn=16,type=1") {
+        return found(afi, AsnLength::Bits16, BmpPeerType::RD);
+    }
+    if same(text, b"asn=16,type=2") {
+        return found(afi, AsnLength::Bits16, BmpPeerType::Local);
+    }
+    if same(text, b"asn=16,type=3") {
+        return found(afi, AsnLength::Bits16, BmpPeerType::LocalRib);
+    }
+    if same(text, b"asn=32,type=0") {
+        return found(afi, AsnLength::Bits32, BmpPeerType::Global);
+    }
+    if same(text, b"asn=32,type=1") {
+        return found(afi, AsnLength::Bits32, BmpPeerType::RD);
+    }
+    if same(text, b"asn=32,type=2") {
+        return found(afi, AsnLength::Bits32, BmpPeerType::Local);
+    }
+    if same(text, b"asn=32,type=3") {
+        return found(afi, AsnLength::Bits32, BmpPeerType::LocalRib);
+    }
+    FoundArguments::Nothing
+}
+
+fn found(afi: Afi, asn_len: AsnLength, peer_type: BmpPeerType) -> FoundArguments
+    ensures { λ r. ⌜ r ≡ found afi «asn_len» «peer_type» ⌝ }
+{
+    let arguments = Arguments {
+        afi: afi,
+        asn_len: asn_len,
+        peer_type: peer_type,
+    };
+    FoundArguments::Arguments(arguments)
+}
+
+fn same(text: &[u8], word: &[u8]) -> bool
+    ensures { λ r. ⌜ r ≡ same (now (text .entry)) (now (word .entry)) ⌝ }
+{
+    if text.len() != word.len() {
+        return false;
+    }
+    starts_with(text, word)
+}
+
+fn starts_with(text: &[u8], word: &[u8]) -> bool
+    ensures { λ r. ⌜ r ≡ starts (now (text .entry)) (now (word .entry)) ⌝ }
+{
+    let mut i: usize = 0;
+    while i < word.len() {
+        if text.len() <= i {
+            return false;
+        }
+        if text[i] != word[i] {
+            return false;
+        }
+        i += 1;
+    }
+    true
+}
+
+// Puts the bytes that lower-case digits write at the start of a buffer, which bounds their number. No bytes are written as a hyphen
+// and never as no digits.
+pub fn unhex(digits: &[u8], bytes: &mut [u8]) -> Unhexed
+    ensures { λ r. ⌜ r ≡ unhexed (now (digits .entry)) (length (now (bytes .entry))) ⌝ }
+    ensures { λ _. ⌜ now (bytes .exit) ≡ unhexedInto (now (digits .entry)) (now (bytes .entry)) ⌝ }
+{
+    if same(digits, b"-") {
+        return Unhexed::Bytes(0);
+    }
+    if !pairs_fit(digits.len(), bytes.len()) {
+        return Unhexed::Bad;
+    }
+    put_pairs(digits, bytes)
+}
+
+fn pairs_fit(length: usize, room: usize) -> bool
+    ensures { λ r. ⌜ r ≡ pairsFit length room ⌝ }
+{
+    if length / 2 == 0 {
+        return false;
+    }
+    if length % 2 != 0 {
+        return false;
+    }
+    length / 2 <= room
+}
+
+fn put_pairs(digits: &[u8], bytes: &mut [u8]) -> Unhexed
+    requires { ⌜ (length (now digits) % 2 ≡ 0) × (length (now digits) / 2 ≤ length (now bytes)) ⌝ }
+    ensures { λ r. ⌜ r ≡ pairsUnhexed (now (digits .entry)) ⌝ }
+    ensures { λ _. ⌜ now (bytes .exit) ≡ sets (now (bytes .entry)) 0 (bytesOf (now (digits .entry))) ⌝ }
+{
+    let count = digits.len() / 2;
+    let mut i: usize = 0;
+    while i < count {
+        let high = digit_value(digits[2 * i]);
+        let low = digit_value(digits[2 * i + 1]);
+        if 15 < high {
+            return Unhexed::Bad;
+        }
+        if 15 < low {
+            return Unhexed::Bad;
+        }
+        bytes[i] = high * 16 + low;
+        i += 1;
+    }
+    Unhexed::Bytes(count)
+}
+
+// What a lower-case digit stands for, 16 where it is none.
+fn digit_value(digit: u8) -> u8
+    ensures { λ r. ⌜ r ≡ digitValue digit ⌝ }
+{
+    match digit {
+        b'0'..=b'9' => digit - b'0',
+        b'a'..=b'f' => digit - b'a' + 10,
+        _ => 16,
+    }
+}
