@@ -1,4 +1,5 @@
-"""What compare/run and compare/streams share: the list is put to the oracle and to our program, and the answers are compared."""
+"""What compare/run and compare/streams share: the list is put to the oracle and to our program, and the answers are compared.
+compare/plant builds the oracle by it, too."""
 
 import argparse
 import pathlib
@@ -27,10 +28,14 @@ def ask(command, asked, answers):
         sys.exit(f"{shlex.join(map(str, command))} ended with {status}")
 
 
-def compare(folder, ours, asked):
-    """Builds the oracle from the folder, puts the lines to both, and tells whether nothing differs. The answers are kept beside the list."""
+def build_oracle(folder):
     if subprocess.run([TOP / "oracle" / "build", folder]).returncode:
         sys.exit("the oracle could not be built")
+
+
+def compare(folder, ours, asked):
+    """Builds the oracle from the folder, puts the lines to both, and tells whether nothing differs. The answers are kept beside the list."""
+    build_oracle(folder)
     ask([TOP / "target" / "oracle" / "oracle"], asked, KEPT / "oracle")
     ask(shlex.split(ours) if ours else [TOP / "run", "replay"], asked, KEPT / "ours")
     return difference.compare(KEPT / "ours", KEPT / "oracle", asked)
