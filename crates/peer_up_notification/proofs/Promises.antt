@@ -16,10 +16,9 @@ use Rattle.writing.proofs.Table.{length-parts}
 use Rattle.models.specs.declared.Afi.{Afi}
 use Rattle.peer.specs.declared.BmpPeerType.{BmpPeerType}
 use Rattle.peer_up_notification.specs.Grammar.{Reading, join, Good}
-use Rattle.peer_up_notification.specs.Shown.{kindOf, Fits, shown}
+use Rattle.peer_up_notification.specs.Shown.{Fits, shown}
 use Rattle.peer_up_notification.specs.Read.{readPeerUp}
 use Rattle.peer_up_notification.specs.Write.{writer, kept, readingOf, bytesOf, writable, Typed}
-use Rattle.peer_up_notification.specs.declared.PeerUpTlvType.{PeerUpTlvType}
 use Rattle.peer_up_notification.specs.declared.PeerUpNotification.{PeerUpNotification}
 use Rattle.peer_up_notification.specs.declared.PeerUpAnswer.{PeerUpAnswer}
 use Rattle.peer_up_notification.proofs.Sound.{accepted, reading-of, same-reading}
@@ -89,6 +88,3 @@ pub write-determined : (m : PeerUpNotification) (b out : List ℕ) (r q : WriteA
     → r ≡ writeAnswer (writable m b) (length (bytesOf m b)) (length out) → q ≡ writeAnswer (writable m b) (length (bytesOf m b)) (length out)
     → o ≡ written (writable m b) (bytesOf m b) out → p ≡ written (writable m b) (bytesOf m b) out → (r ≡ q) × (o ≡ p)
 write-determined m b out r q o p er eq eo ep = (determined er eq, determined eo ep)
-
-pub kind-of-determined : (kind : PeerUpTlvType) (r q : ℕ) → r ≡ kindOf kind → q ≡ kindOf kind → r ≡ q
-kind-of-determined kind r q = determined

@@ -556,7 +556,7 @@ fn put_tlv(out: &mut [u8], at: usize, tlv: PeerUpNotificationTlv, buffer: &[u8])
 }
 
 // The number that stands for a TLV's type on the wire.
-pub fn kind_of(kind: PeerUpTlvType) -> u16
+fn kind_of(kind: PeerUpTlvType) -> u16
     ensures { λ r. ⌜ r ≡ kindOf kind ⌝ }
 {
     match kind {

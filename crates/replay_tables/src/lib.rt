@@ -414,7 +414,7 @@ fn put_peer_up_tlv(
     }
     let info_type = tlv.info_type;
     let info = tlv.info_value;
-    let kind = peer_up_notification::kind_of(info_type) as u64;
+    let kind = peer_up_kind(info_type);
     let name = match info_type {
         PeerUpTlvType::Unknown(_) => b'U' as u64,
         _ => b'N' as u64,
@@ -428,4 +428,15 @@ fn put_peer_up_tlv(
         info.length as u64,
     ];
     replay_answers::put_form(out, at, b",#:#:!:$", &numbers, body)
+}
+
+fn peer_up_kind(info_type: PeerUpTlvType) -> u64 {
+    match info_type {
+        PeerUpTlvType::String => 0,
+        PeerUpTlvType::SysDescr => 1,
+        PeerUpTlvType::SysName => 2,
+        PeerUpTlvType::VrTableName => 3,
+        PeerUpTlvType::AdminLabel => 4,
+        PeerUpTlvType::Unknown(number) => number as u64,
+    }
 }
