@@ -159,7 +159,7 @@ fn put_line(out: &mut [u8], at: usize, line: &[u8], bytes: &mut [u8], room: &mut
 }
 
 fn put_bad_line(out: &mut [u8], at: usize) -> usize {
-    lines::put_text(out, at, b"bad line\n")
+    replay_answers::put_text(out, at, b"bad line\n")
 }
 
 fn put_command(
@@ -315,8 +315,8 @@ fn put_header(
         b"good stop=# tail=# warn=# type=# flags=% dist=@ fam=# addr=@@ as=# asbits=# id=& sec=# usec=# ts=@ time=";
     let next = replay_answers::put_form(out, at, form, &numbers, b"");
     match header.peer_time() {
-        PeerTime::Unavailable => lines::put_text(out, next, b"none\n"),
-        PeerTime::At(_) => lines::put_text(out, next, b"some\n"),
+        PeerTime::Unavailable => replay_answers::put_text(out, next, b"none\n"),
+        PeerTime::At(_) => replay_answers::put_text(out, next, b"some\n"),
     }
 }
 

@@ -1,9 +1,14 @@
-// What the answers to a line have in common (docs/REPLAY.md, "Output").
+// What the answers to a line have in common (docs/REPLAY.md, "Output"): text that is put piece by piece into a lent buffer. Each put answers
+// the place after its piece; a piece that does not fit changes nothing.
 use models::Afi;
 use wire::Refusal;
 use wire::View;
 use writing::WriteAnswer;
-ghost use Prim.Native.Nat.{_≤_};
+ghost use mathlib.Core.Path.{_≡_};
+ghost use Prim.Native.Nat.{_<_, _≤_};
+ghost use Rattle.writing.specs.Write.{putAt};
+ghost use Rattle.decimal.specs.Decimal.{decimal};
+ghost use Rattle.replay_answers.specs.Text.{placeAfter, hexDigit, hex};
 
 pub fn put_refused(out: &mut [u8], at: usize, refusal: Refusal) -> usize {
     let numbers = [refusal.number as u64, refusal.place as u64];
@@ -82,7 +87,7 @@ fn put_piece(
 ) -> usize {
     let n = number_at(numbers, taken);
     match mark {
-        b'#' => lines::put_decimal(out, at, n),
+        b'#' => put_decimal(out, at, n),
         b'%' => put_hex_number(out, at, n, 7),
         b'&' => put_hex_number(out, at, n, 4),
         b'@' => put_hex_number(out, at, n, 0),
@@ -102,14 +107,14 @@ fn number_at(numbers: &[u64], i: usize) -> u64 {
 
 fn put_byte(out: &mut [u8], at: usize, n: u64) -> usize {
     let byte = [(n % 256) as u8];
-    lines::put_text(out, at, &byte)
+    put_text(out, at, &byte)
 }
 
 fn put_comma(out: &mut [u8], at: usize, n: u64) -> usize {
     if n == 0 {
         return at;
     }
-    lines::put_text(out, at, b",")
+    put_text(out, at, b",")
 }
 
 // The last bytes of the eight of a number, from this one on.
@@ -118,7 +123,7 @@ fn put_hex_number(out: &mut [u8], at: usize, n: u64, from: usize) -> usize
 {
     let mut bytes = [0u8; 8];
     writing::put_u64(&mut bytes, 0, n);
-    lines::put_hex(out, at, &bytes[from..8])
+    put_hex(out, at, &bytes[from..8])
 }
 
 fn put_part(
@@ -136,5 +141,55 @@ fn put_part(
         place: place as usize,
         length: number_at(numbers, taken + 1) as usize,
     };
-    lines::put_hex(out, at, part.part(body))
+    put_hex(out, at, part.part(body))
+}
+
+pub fn put_text(out: &mut [u8], at: usize, text: &[u8]) -> usize
+    ensures { λ r. ⌜ r ≡ placeAfter (now (out .entry)) at (now (text .entry)) ⌝ }
+    ensures { λ _. ⌜ now (out .exit) ≡ putAt (now (out .entry)) at (now (text .entry)) ⌝ }
+{
+    if wire::left(out, at) < text.len() {
+        return at;
+    }
+    writing::put_bytes(out, at, text);
+    at + text.len()
+}
+
+// Two lower-case digits for each byte.
+fn put_hex(out: &mut [u8], at: usize, bytes: &[u8]) -> usize
+    ensures { λ r. ⌜ r ≡ placeAfter (now (out .entry)) at (hex (now (bytes .entry))) ⌝ }
+    ensures { λ _. ⌜ now (out .exit) ≡ putAt (now (out .entry)) at (hex (now (bytes .entry))) ⌝ }
+{
+    if wire::left(out, at) / 2 < bytes.len() {
+        return at;
+    }
+    let mut i: usize = 0;
+    while i < bytes.len() {
+        let byte = bytes[i];
+        out[at + 2 * i] = hex_digit(byte / 16);
+        out[at + 2 * i + 1] = hex_digit(byte % 16);
+        i += 1;
+    }
+    at + 2 * bytes.len()
+}
+
+fn hex_digit(d: u8) -> u8
+    requires { ⌜ d < 16 ⌝ }
+    ensures { λ r. ⌜ r ≡ hexDigit d ⌝ }
+{
+    if d < 10 { b'0' + d } else { b'a' - 10 + d }
+}
+
+// The digits of a number, with no zero in front.
+fn put_decimal(out: &mut [u8], at: usize, n: u64) -> usize
+    ensures { λ r. ⌜ r ≡ placeAfter (now (out .entry)) at (decimal n) ⌝ }
+    ensures { λ _. ⌜ now (out .exit) ≡ putAt (now (out .entry)) at (decimal n) ⌝ }
+{
+    let number = n as usize;
+    let count = decimal::digit_count(number);
+    if wire::left(out, at) < count {
+        return at;
+    }
+    decimal::put_decimal(out, at, number);
+    at + count
 }

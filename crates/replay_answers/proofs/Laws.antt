@@ -9,7 +9,7 @@ use lib.ListN.{length, drop, getD, set, drop-of-length-le}
 use lib.Seq.{sets, drop-cons}
 use Rattle.writing.specs.Write.{putAt}
 use Rattle.writing.proofs.Sets.{put-fits}
-use Rattle.lines.specs.Text.{placeAfter, hexDigit, hex}
+use Rattle.replay_answers.specs.Text.{placeAfter, hexDigit, hex}
 
 pub after-fits : (l : List ℕ) (at : ℕ) (t : List ℕ) → length t ≤ length l - at → placeAfter l at t ≡ at + length t
 after-fits l at t h = rw (le-leb (length t) (length l - at) h)

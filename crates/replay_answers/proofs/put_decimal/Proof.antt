@@ -3,10 +3,10 @@ use native.Mathlib.Omega.{arith}
 use denote.Ref.{now}
 use mathlib.Core.Path.{sym}
 use Rattle.writing.proofs.Sets.{put-nothing}
-use Rattle.lines.proofs.Laws.{after-fits, after-nothing}
+use Rattle.replay_answers.proofs.Laws.{after-fits, after-nothing}
 use Rattle.decimal.specs.Decimal.{decimal}
-use Rattle.lines.proofs.put_decimal.Statement.{statement}
-use Rattle.lines.proofs.put_decimal.Tie as tie
+use Rattle.replay_answers.proofs.put_decimal.Statement.{statement}
+use Rattle.replay_answers.proofs.put_decimal.Tie as tie
 
 digit-count-requires : tie.Need-digit-count-requires
 digit-count-requires c κs = search needs

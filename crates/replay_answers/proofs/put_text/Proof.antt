@@ -3,9 +3,9 @@ use native.Mathlib.Omega.{arith}
 use denote.Ref.{now}
 use mathlib.Core.Path.{sym}
 use Rattle.writing.proofs.Sets.{put-nothing}
-use Rattle.lines.proofs.Laws.{after-fits, after-nothing}
-use Rattle.lines.proofs.put_text.Statement.{statement}
-use Rattle.lines.proofs.put_text.Tie as tie
+use Rattle.replay_answers.proofs.Laws.{after-fits, after-nothing}
+use Rattle.replay_answers.proofs.put_text.Statement.{statement}
+use Rattle.replay_answers.proofs.put_text.Tie as tie
 
 left-requires : tie.Need-left-requires
 left-requires c κs = search needs

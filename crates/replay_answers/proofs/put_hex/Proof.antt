@@ -7,10 +7,10 @@ use Prim.Native.Nat.{ℕ, _+_, _-_, _*_, _≤_}
 use lib.ListN.{length, drop, length-set}
 use lib.Seq.{sets}
 use Rattle.writing.proofs.Sets.{put-nothing}
-use Rattle.lines.specs.Text.{hex}
-use Rattle.lines.proofs.Laws.{after-fits, after-nothing, length-hex, hex-more, hex-done}
-use Rattle.lines.proofs.put_hex.Statement.{statement}
-use Rattle.lines.proofs.put_hex.Tie as tie
+use Rattle.replay_answers.specs.Text.{hex}
+use Rattle.replay_answers.proofs.Laws.{after-fits, after-nothing, length-hex, hex-more, hex-done}
+use Rattle.replay_answers.proofs.put_hex.Statement.{statement}
+use Rattle.replay_answers.proofs.put_hex.Tie as tie
 
 abbrev Inv-loop : tie.InvT-loop
 Inv-loop out₀ at bytes i₀ out i =
