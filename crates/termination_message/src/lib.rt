@@ -9,8 +9,9 @@ ghost use mathlib.Core.Bool.{true};
 ghost use Prim.Native.Nat.{_+_, _≤_};
 ghost use lib.ListN.{length};
 ghost use lib.Seq.{sets};
+ghost use Rattle.wire.specs.Bytes.{be};
 ghost use Rattle.wire.specs.Read.{refusal};
-ghost use Rattle.writing.specs.Write.{putAt, writeAnswer, written};
+ghost use Rattle.writing.specs.Write.{putAt, tlvBytes, walkedTlvFits, writeAnswer, written};
 ghost use Rattle.writing.specs.Table.{sizes};
 ghost use Rattle.termination_message.specs.Shown.{typeOf, kindOf, reasonOf, codeOf, stringEntry, reasonEntry, zeroTlv, refusedAnswer};
 ghost use Rattle.termination_message.specs.Read.{stepAt, readTermination};
@@ -253,9 +254,22 @@ fn tlv_writable(tlv: TerminationTlv, room: usize, after: usize) -> bool
     let size = tlv.info_len;
     let value = tlv.info_value;
     match value {
-        TerminationTlvValue::String(view) => writing::walked_tlv_fits(0, size, view, room, after),
+        TerminationTlvValue::String(view) => walked_tlv_fits(0, size, view, room, after),
         TerminationTlvValue::Reason(_) => size == 2,
     }
+}
+
+// Whether a TLV can be written with this many TLVs behind it: a last one of length 0 would be taken for a tail.
+fn walked_tlv_fits(kind: u16, size: u16, view: View, room: usize, after: usize) -> bool
+    ensures { λ r. ⌜ r ≡ walkedTlvFits kind size view room after ⌝ }
+{
+    if !writing::tlv_fits(kind, size, view, room) {
+        return false;
+    }
+    if 0 < size {
+        return true;
+    }
+    0 < after
 }
 
 fn written_length(message: TerminationMessage) -> usize
@@ -308,9 +322,17 @@ fn put_tlv(out: &mut [u8], at: usize, tlv: TerminationTlv, buffer: &[u8])
             writing::put_tlv(out, at, kind, size, part);
         }
         TerminationTlvValue::Reason(reason) => {
-            writing::put_tlv_u16(out, at, kind, size, code_of(reason));
+            put_tlv_u16(out, at, kind, size, code_of(reason));
         }
     }
+}
+
+// Puts a TLV whose value is a number of two bytes, whatever its length says; where it does not fit, nothing changes.
+fn put_tlv_u16(out: &mut [u8], at: usize, kind: u16, size: u16, code: u16)
+    ensures { λ _. ⌜ now (out .exit) ≡ putAt (now (out .entry)) at (tlvBytes kind size (be 2 code)) ⌝ }
+{
+    let bytes = [(code / 256) as u8, (code % 256) as u8];
+    writing::put_tlv(out, at, kind, size, &bytes);
 }
 
 fn kind_of(info_type: TerminationTlvType) -> u16

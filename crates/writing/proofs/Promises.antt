@@ -12,15 +12,15 @@ use Rattle.wire.specs.Number as Number
 use Rattle.wire.specs.Read.{refusal}
 use Rattle.wire.specs.declared.View.{View}
 use Rattle.wire.proofs.Determined.{determined}
-use Rattle.writing.specs.Write.{putAt, tlvFits, walkedTlvFits, refusalOf, lengthOf, writeAnswer, after, written}
+use Rattle.writing.specs.Write.{putAt, tlvFits, refusalOf, lengthOf, writeAnswer, after, written}
 use Rattle.writing.specs.declared.WriteAnswer.{WriteAnswer}
 use Rattle.writing.specs.declared.WriteAnswer.the-variants.{Written, Refused}
 use Rattle.writing.proofs.Sets.{put-fits, put-nothing}
 use Rattle.writing.proofs.Answers.{writes}
 
 -- ---- any two outputs, and any two answers, that a contract allows are equal
--- Two outputs that put_bytes may leave are equal, and so with put_u8, put_u16, put_u32, put_u64 (b is be w n with w 1, 2, 4, 8),
--- put_tlv (b is tlvBytes kind size value) and put_tlv_u16 (b is tlvBytes kind size (be 2 code)).
+-- Two outputs that put_bytes may leave are equal, and so with put_u8, put_u16, put_u32, put_u64 (b is be w n with w 1, 2, 4, 8), and
+-- put_tlv (b is tlvBytes kind size value).
 pub put-determined : (out : List ℕ) (at : ℕ) (b out′ out″ : List ℕ) → out′ ≡ putAt out at b → out″ ≡ putAt out at b → out′ ≡ out″
 put-determined out at b out′ out″ = determined
 
@@ -31,11 +31,6 @@ write-answer-determined ok n room r q = determined
 -- Two answers of tlv_fits for the same TLV and room are equal.
 pub tlv-fits-determined : (kind size : ℕ) (v : View) (room : ℕ) (r q : Bool) → r ≡ tlvFits kind size v room → q ≡ tlvFits kind size v room → r ≡ q
 tlv-fits-determined kind size v room r q = determined
-
--- Two answers of walked_tlv_fits for the same TLV, buffer length and number of TLVs behind it are equal.
-pub walked-tlv-fits-determined : (kind size : ℕ) (v : View) (room after : ℕ) (r q : Bool)
-    → r ≡ walkedTlvFits kind size v room after → q ≡ walkedTlvFits kind size v room after → r ≡ q
-walked-tlv-fits-determined kind size v room after r q = determined
 
 -- ---- a put
 -- Bytes that fit stand at their place, with all before and behind them as it was; bytes that do not fit change nothing.

@@ -4,7 +4,7 @@ use wire::View;
 ghost use mathlib.Core.Path.{_≡_};
 ghost use Rattle.wire.specs.Bytes.{be};
 ghost use Rattle.wire.specs.Read.{refusal};
-ghost use Rattle.writing.specs.Write.{putAt, tlvBytes, tlvFits, walkedTlvFits, writeAnswer};
+ghost use Rattle.writing.specs.Write.{putAt, tlvBytes, tlvFits, writeAnswer};
 ghost use Rattle.writing.specs.declared.WriteAnswer.the-variants.{Refused};
 
 // What a writer answers: the length written, or why it wrote nothing.
@@ -77,14 +77,6 @@ pub fn put_tlv(out: &mut [u8], at: usize, kind: u16, size: u16, value: &[u8])
     put_bytes(out, at + 4, value);
 }
 
-// Puts a TLV whose value is a number of two bytes, whatever its length says; where it does not fit, nothing changes.
-pub fn put_tlv_u16(out: &mut [u8], at: usize, kind: u16, size: u16, code: u16)
-    ensures { λ _. ⌜ now (out .exit) ≡ putAt (now (out .entry)) at (tlvBytes kind size (be 2 code)) ⌝ }
-{
-    let bytes = [(code / 256) as u8, (code % 256) as u8];
-    put_tlv(out, at, kind, size, &bytes);
-}
-
 // Whether a TLV can be written from a view of a buffer of length room. A two-byte type always can: it is asked for so that the
 // definition speaks of whole TLVs.
 pub fn tlv_fits(kind: u16, size: u16, view: View, room: usize) -> bool
@@ -94,19 +86,6 @@ pub fn tlv_fits(kind: u16, size: u16, view: View, room: usize) -> bool
         return false;
     }
     view.is_inside(room)
-}
-
-// The same for a walk that wants more than 4 bytes, with this many TLVs behind it: a last one of length 0 would be taken for a tail.
-pub fn walked_tlv_fits(kind: u16, size: u16, view: View, room: usize, after: usize) -> bool
-    ensures { λ r. ⌜ r ≡ walkedTlvFits kind size view room after ⌝ }
-{
-    if !tlv_fits(kind, size, view, room) {
-        return false;
-    }
-    if 0 < size {
-        return true;
-    }
-    0 < after
 }
 
 // A writer's answer by whether its record is writable, the length that it would write and the room there is.

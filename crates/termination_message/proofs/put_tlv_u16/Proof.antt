@@ -3,10 +3,10 @@ use denote.Ref.{now}
 use mathlib.Core.Path.{sym, ap, _∙_}
 use Prim.Native.Nat.{ℕ}
 use mathlib.Core.List.{List}
 use Rattle.writing.specs.Write.{putAt, tlvBytes}
 use Rattle.wire.proofs.Bytes.{be-two}
-use Rattle.writing.proofs.put_tlv_u16.Statement.{statement}
-use Rattle.writing.proofs.put_tlv_u16.Tie as tie
+use Rattle.termination_message.proofs.put_tlv_u16.Statement.{statement}
+use Rattle.termination_message.proofs.put_tlv_u16.Tie as tie
 
 cast-t8 : tie.Need-cast-t8
 cast-t8 c = search needs

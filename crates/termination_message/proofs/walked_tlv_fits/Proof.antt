@@ -1,9 +1,9 @@
 use borrow.Author.Needs.{needs}
 use borrow.Author.Tests.{not-true, not-false, lt-ltb, le-ltb}
 use mathlib.Core.Path.{sym, _∙_}
 use Rattle.writing.specs.Write.{walkedTlvFits}
-use Rattle.writing.proofs.walked_tlv_fits.Statement.{statement}
-use Rattle.writing.proofs.walked_tlv_fits.Tie as tie
+use Rattle.termination_message.proofs.walked_tlv_fits.Statement.{statement}
+use Rattle.termination_message.proofs.walked_tlv_fits.Tie as tie
 
 tlv-fits-requires : tie.Need-tlv-fits-requires
 tlv-fits-requires c κs = search needs
