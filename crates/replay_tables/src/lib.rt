@@ -51,7 +51,7 @@ fn put_report(out: &mut [u8], at: usize, stop: usize, report: StatsReport, body:
         next = put_counter(out, next, i, report.count, counter, body);
         i += 1;
     }
-    lines::put_text(out, next, b"]\n")
+    replay_answers::put_text(out, next, b"]\n")
 }
 
 fn put_counter(
@@ -147,7 +147,7 @@ fn put_initiation_tlvs(
         next = put_initiation_tlv(out, next, i, message.count, tlv, body);
         i += 1;
     }
-    lines::put_text(out, next, b"]\n")
+    replay_answers::put_text(out, next, b"]\n")
 }
 
 fn put_initiation_tlv(
@@ -222,7 +222,7 @@ fn put_termination_tlvs(
         next = put_termination_tlv(out, next, i, message.count, tlv, body);
         i += 1;
     }
-    lines::put_text(out, next, b"]\n")
+    replay_answers::put_text(out, next, b"]\n")
 }
 
 fn put_termination_tlv(
@@ -298,7 +298,7 @@ fn put_mirroring_tlvs(out: &mut [u8], at: usize, message: RouteMirroring, body: 
         next = put_mirroring_tlv(out, next, i, message.count, tlv, body);
         i += 1;
     }
-    lines::put_text(out, next, b"]\n")
+    replay_answers::put_text(out, next, b"]\n")
 }
 
 fn put_mirroring_tlv(
@@ -398,7 +398,7 @@ fn put_peer_up_tlvs(out: &mut [u8], at: usize, message: PeerUpNotification, body
         next = put_peer_up_tlv(out, next, i, message.count, tlv, body);
         i += 1;
     }
-    lines::put_text(out, next, b"]\n")
+    replay_answers::put_text(out, next, b"]\n")
 }
 
 fn put_peer_up_tlv(
