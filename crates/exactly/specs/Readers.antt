@@ -1,5 +1,4 @@
 -- Every reader with its arguments fixed, and the grammar that it is held against.
-use Rattle.wire.specs.declared.Refusal.{Refusal}
 use Rattle.models.specs.declared.Afi.{Afi}
 use Rattle.models.specs.declared.AsnLength.{AsnLength}
 use Rattle.peer.specs.declared.BmpPeerType.{BmpPeerType}

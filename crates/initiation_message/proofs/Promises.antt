@@ -22,10 +22,9 @@ use Rattle.writing.specs.declared.WriteAnswer.the-variants.{Written}
 use Rattle.writing.proofs.Answers.{front}
 use Rattle.writing.proofs.Table.{length-parts}
 use Rattle.initiation_message.specs.Grammar.{Reading, join, Good}
-use Rattle.initiation_message.specs.Shown.{kindOf, zeroTlv, places, Fits, shown}
+use Rattle.initiation_message.specs.Shown.{zeroTlv, places, Fits, shown}
 use Rattle.initiation_message.specs.Read.{kit, readInitiation}
 use Rattle.initiation_message.specs.Write.{writer, kept, readingOf, bytesOf, writable}
-use Rattle.initiation_message.specs.declared.InitiationTlvType.{InitiationTlvType}
 use Rattle.initiation_message.specs.declared.InitiationTlv.{InitiationTlv}
 use Rattle.initiation_message.specs.declared.InitiationMessage.{InitiationMessage}
 use Rattle.initiation_message.specs.declared.InitiationAnswer.{InitiationAnswer}
@@ -95,6 +94,3 @@ pub write-determined : (m : InitiationMessage) (b out : List ℕ) (r q : WriteAn
     → r ≡ writeAnswer (writable m (length b)) (length (bytesOf m b)) (length out) → q ≡ writeAnswer (writable m (length b)) (length (bytesOf m b)) (length out)
     → o ≡ written (writable m (length b)) (bytesOf m b) out → p ≡ written (writable m (length b)) (bytesOf m b) out → (r ≡ q) × (o ≡ p)
 write-determined m b out r q o p er eq eo ep = (determined er eq, determined eo ep)
-
-pub kind-of-determined : (t : InitiationTlvType) (n k : ℕ) → n ≡ kindOf t → k ≡ kindOf t → n ≡ k
-kind-of-determined t n k = determined

@@ -264,7 +264,7 @@ fn put_tlv(out: &mut [u8], at: usize, tlv: InitiationTlv, buffer: &[u8])
 }
 
 // The number that stands for a TLV's type on the wire.
-pub fn kind_of(kind: InitiationTlvType) -> u16
+fn kind_of(kind: InitiationTlvType) -> u16
     ensures { λ r. ⌜ r ≡ kindOf kind ⌝ }
 {
     match kind {

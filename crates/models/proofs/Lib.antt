@@ -1,4 +1,5 @@
 pub mod Equality
 pub mod Times
+pub mod Warnings
 pub mod Promises
 pub mod Specimens

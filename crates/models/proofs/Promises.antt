@@ -9,6 +9,7 @@ use lib.Ieee.{Float, binary64, fits, toBits}
 use Rattle.wire.proofs.Determined.{determined}
 use Rattle.models.specs.Address.{sameAfi, sameOctets, sameAddress, unspecified}
 use Rattle.models.specs.Time.{timeOf, isTimestamp}
+use Rattle.models.specs.Warnings.{countOnes}
 use Rattle.models.specs.declared.IpAddr.{IpAddr}
 use Rattle.models.proofs.Equality.{afi-equal, afi-self, octets-equal, octets-self}
 use Rattle.models.proofs.Times.{same-bits}
@@ -44,3 +45,6 @@ timestamp-determined seconds microseconds r q = determined
 pub is-timestamp-determined : (t : Float) (seconds microseconds : ℕ) (r q : Bool)
     → r ≡ isTimestamp t seconds microseconds → q ≡ isTimestamp t seconds microseconds → r ≡ q
 is-timestamp-determined t seconds microseconds r q = determined
+
+pub warning-count-determined : (word a b : ℕ) → a ≡ countOnes 32 word → b ≡ countOnes 32 word → a ≡ b
+warning-count-determined word a b = determined

@@ -2,6 +2,7 @@
 ghost use mathlib.Core.Path.{_≡_};
 ghost use Rattle.models.specs.Address.{sameAddress, sameAfi, sameOctets, unspecified};
 ghost use Rattle.models.specs.Time.{isTimestamp, timeOf};
+ghost use Rattle.models.specs.Warnings.{countOnes};
 
 // An AS number, a BGP identifier and a distinguisher have a type each, so that no call takes one for another.
 pub struct Asn(pub u32);
@@ -94,4 +95,11 @@ pub fn is_timestamp(t: f64, seconds: u32, microseconds: u32) -> bool
         return f64::to_bits(t) == f64::to_bits(given);
     }
     false
+}
+
+// How many warnings a word holds (docs/RULES.md, "Warnings").
+pub fn warning_count(warnings: u32) -> u32
+    ensures { λ r. ⌜ r ≡ countOnes 32 warnings ⌝ }
+{
+    u32::count_ones(warnings)
 }

@@ -20,7 +20,8 @@ use Rattle.layout.specs.Layout.{firstCut}
 use Rattle.layout.proofs.Promises.{FirstLacking, first-lacking}
 use Rattle.peer.specs.declared.BmpPerPeerHeader.{BmpPerPeerHeader}
 use Rattle.per_peer_header.specs.Grammar.{widths, Reading, addressBytes, join, Octets, Good}
-use Rattle.per_peer_header.specs.Warnings.{strayAddress, noRouterId, warnings, countOnes}
+use Rattle.models.specs.Warnings.{countOnes}
+use Rattle.per_peer_header.specs.Warnings.{strayAddress, noRouterId, warnings}
 use Rattle.per_peer_header.specs.Shown.{shown, refused}
 use Rattle.per_peer_header.specs.Read.{partsOf, readPerPeerHeader}
 use Rattle.per_peer_header.specs.Write.{readingOf, bytesOf, writable, Typed}
@@ -149,6 +150,3 @@ pub write-determined : (h : BmpPerPeerHeader) (out : List ℕ) (a b : WriteAnswe
     → a ≡ writeAnswer (writable h) (length (bytesOf h)) (length out) → b ≡ writeAnswer (writable h) (length (bytesOf h)) (length out)
     → o ≡ written (writable h) (bytesOf h) out → p ≡ written (writable h) (bytesOf h) out → (a ≡ b) × (o ≡ p)
 write-determined h out a b o p ea eb eo ep = (determined ea eb, determined eo ep)
-
-pub warning-count-determined : (word a b : ℕ) → a ≡ countOnes 32 word → b ≡ countOnes 32 word → a ≡ b
-warning-count-determined word a b = determined

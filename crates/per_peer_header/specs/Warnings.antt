@@ -1,5 +1,5 @@
 -- What RFC 9069 asks of the header of a Loc-RIB, and a reader warns of. Each warning is a bit of one word.
-use Prim.Native.Nat.{ℕ, zero, suc, _+_, _/_, _%_}
+use Prim.Native.Nat.{ℕ, _+_}
 use mathlib.Core.Bool.{Bool, true, not, _&&_}
 use mathlib.Core.List.{List, [], _∷_}
 use lib.Dec.{eqb}
@@ -25,8 +25,3 @@ warningsOf kind address id distinguisher = pick (strayAddress kind address) 1 0 
 
 abbrev pub warnings : Reading → ℕ
 warnings r = warningsOf (r .kind) (addressBytes (r .address)) (r .id) (r .distinguisher)
-
--- the number of warnings in a word: of its lowest bits, those that are set
-abbrev pub countOnes : ℕ → ℕ → ℕ
-countOnes zero word = 0
-countOnes (suc bits) word = word % 2 + countOnes bits (word / 2)

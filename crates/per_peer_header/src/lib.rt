@@ -21,7 +21,7 @@ ghost use Rattle.layout.specs.Layout.{cutIn};
 ghost use Rattle.writing.specs.Write.{writeAnswer, written};
 ghost use Rattle.peer.specs.Peer.{typeOf};
 ghost use Rattle.per_peer_header.specs.Grammar.{widths};
-ghost use Rattle.per_peer_header.specs.Warnings.{zeroFilled, warningsOf, countOnes};
+ghost use Rattle.per_peer_header.specs.Warnings.{zeroFilled, warningsOf};
 ghost use Rattle.per_peer_header.specs.Shown.{shownAddress, shownAsn, shown, refused};
 ghost use Rattle.per_peer_header.specs.Read.{addressField, asField, partsOf, readPerPeerHeader};
 ghost use Rattle.per_peer_header.specs.Write.{writable, bytesOf};
@@ -38,13 +38,6 @@ pub struct PerPeerHeaderAnswer {
 const STRAY_ADDRESS: u32 = 1;
 
 const NO_ROUTER_ID: u32 = 2;
-
-// How many warnings a word holds.
-pub fn warning_count(warnings: u32) -> u32
-    ensures { λ r. ⌜ r ≡ countOnes 32 warnings ⌝ }
-{
-    u32::count_ones(warnings)
-}
 
 // The type is judged before the length, so that an unknown one is named even where more is missing; where there is no byte at
 // all, u8_at gives 0 and the length refuses.

@@ -163,7 +163,7 @@ fn put_initiation_tlv(
     }
     let info_type = tlv.info_type;
     let info = tlv.info;
-    let kind = initiation_message::kind_of(info_type) as u64;
+    let kind = initiation_kind(info_type);
     let name = match info_type {
         InitiationTlvType::Unknown(_) => b'U' as u64,
         _ => b'N' as u64,
@@ -438,5 +438,16 @@ fn peer_up_kind(info_type: PeerUpTlvType) -> u64 {
         PeerUpTlvType::VrTableName => 3,
         PeerUpTlvType::AdminLabel => 4,
         PeerUpTlvType::Unknown(number) => number as u64,
+    }
+}
+
+fn initiation_kind(info_type: InitiationTlvType) -> u64 {
+    match info_type {
+        InitiationTlvType::String => 0,
+        InitiationTlvType::SysDescr => 1,
+        InitiationTlvType::SysName => 2,
+        InitiationTlvType::VrTableName => 3,
+        InitiationTlvType::AdminLabel => 4,
+        InitiationTlvType::Unknown(number) => number as u64,
     }
 }

@@ -1,7 +1,7 @@
 use native.Mathlib.Omega.{arith}
-use Rattle.per_peer_header.proofs.Warned.{ones-counted}
-use Rattle.per_peer_header.proofs.warning_count.Statement.{statement}
-use Rattle.per_peer_header.proofs.warning_count.Tie as tie
+use Rattle.models.proofs.Warnings.{ones-counted}
+use Rattle.models.proofs.warning_count.Statement.{statement}
+use Rattle.models.proofs.warning_count.Tie as tie
 
 returns : tie.Need-returns
 returns c = ones-counted 32 (c .args .warnings) (omega arith)
