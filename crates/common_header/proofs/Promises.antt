@@ -11,13 +11,14 @@ use Rattle.wire.specs.Number as Number
 use Rattle.wire.specs.Bytes.{pick, Bytes, none}
 use Rattle.wire.proofs.Bytes.{num-lt, bytes-drop, bytes-be, bytes-append}
 use Rattle.wire.proofs.Determined.{determined}
+use Rattle.wire.specs.Exactly.{Sound, Complete, Unique}
 use Rattle.writing.specs.Write.{lengthOf, writeAnswer, written}
 use Rattle.writing.specs.declared.WriteAnswer.{WriteAnswer}
 use Rattle.writing.specs.declared.WriteAnswer.the-variants.{Written}
 use Rattle.writing.proofs.Answers.{front}
 use Rattle.common_header.specs.Grammar.{Reading, join, Good}
-use Rattle.common_header.specs.Shown.{typeOf, kindOf, shown, refusalOf, stopOf, headerOf}
-use Rattle.common_header.specs.Read.{partsOf, readCommonHeader}
+use Rattle.common_header.specs.Shown.{typeOf, kindOf, shown, refusalOf, stopOf, headerOf, grammar}
+use Rattle.common_header.specs.Read.{partsOf, readCommonHeader, reader}
 use Rattle.common_header.specs.Write.{readingOf, bytesOf, writable}
 use Rattle.common_header.specs.declared.BmpMsgType.{BmpMsgType}
 use Rattle.common_header.specs.declared.BmpMsgType.the-variants.{RouteMonitoring, StatisticsReport, PeerDownNotification, PeerUpNotification, InitiationMessage, TerminationMessage, RouteMirroringMessage}
@@ -25,27 +26,25 @@ use Rattle.common_header.specs.declared.BmpCommonHeader.{BmpCommonHeader
 use Rattle.common_header.specs.declared.CommonHeaderAnswer.{CommonHeaderAnswer}
 use Rattle.common_header.proofs.Laws.{length-join, parts-join, join-parts, Accepted, accepted, shows-parts, number-at-most}
 
--- the answer to s shows r, and r is a good reading of s
-pub record Shows (s : List ℕ) (r : Reading) : Type 0 where
-  pub is-good : Good r
-  pub joined : join r ≡ s
-  pub shown-so : readCommonHeader s ≡ shown r
-
 -- What the reader accepts has a good reading, which it shows.
-pub sound : (s : List ℕ) → Bytes s → refusalOf (readCommonHeader s) .number ≡ Number.Good → (r : Reading) × Shows s r
+pub sound : Sound reader
 sound s p e =
     let a = accepted s e in (
       partsOf s,
       record {
-        is-good = record { version-is = a .three; length-fits = num-lt 4 1 p; kind-known = a .known; tail-bytes = bytes-drop 6 p };
-        joined = join-parts p (a .long);
+        reading =
+            record {
+              is-good = record { version-is = a .three; length-fits = num-lt 4 1 p; kind-known = a .known; tail-bytes = bytes-drop 6 p };
+              fits = tt;
+              joined = join-parts p (a .long);
+            };
         shown-so = shows-parts s a;
       },
     )
 
 -- Every good reading is accepted, and shown.
-pub complete : (r : Reading) → Good r → length (join r) ≤ Number.limit → readCommonHeader (join r) ≡ shown r
-complete r g short =
+pub complete : Complete reader
+complete r g f short =
     let e = parts-join r g in
     let a : Accepted (join r) =
     record {
@@ -61,7 +60,7 @@ pub refused-at-most : (s : List ℕ) → refusalOf (readCommonHeader s) .number 
 refused-at-most = number-at-most
 
 -- No input has two readings.
-pub unique : (r q : Reading) → Good r → Good q → join r ≡ join q → r ≡ q
+pub unique : Unique grammar
 unique r q g h e = sym (parts-join r g) ∙ ap partsOf e ∙ parts-join q h
 
 -- ---- the writer
@@ -95,7 +94,7 @@ reads-back h e =
     let n = length-join (readingOf h) in
     let t = named (h .«msg_type») in
     let g : Good (readingOf h) = record { version-is = w .0; length-fits = w .1; kind-known = t .1; tail-bytes = none } in
-    let c = complete (readingOf h) g (omega arith) in
+    let c = complete (readingOf h) g tt (omega arith) in
     record {
       read-good = ap (λ (a : CommonHeaderAnswer). refusalOf a .number) c;
       whole = ap stopOf c ∙ sym n;
@@ -120,8 +119,8 @@ only-writable h r =
     bytes-append (bytes-be 1 (h .version)) (bytes-append (bytes-be 4 (h .«msg_len»)) (bytes-append (bytes-be 1 (kindOf (h .«msg_type»))) none)) in
     let x = sound s p (r .read-good) in
     let e : headerOf (shown (x .0)) ≡ h = ap headerOf (sym (x .1 .shown-so)) ∙ r .same in
-    let v : h .version ≡ 3 = ap (λ (k : BmpCommonHeader). k .version) (sym e) ∙ x .1 .is-good .version-is in
-    let n : h .«msg_len» < 256 ^ 4 = subst (λ (k : BmpCommonHeader). k .«msg_len» < 256 ^ 4) e (x .1 .is-good .length-fits) in
+    let v : h .version ≡ 3 = ap (λ (k : BmpCommonHeader). k .version) (sym e) ∙ x .1 .reading .is-good .version-is in
+    let n : h .«msg_len» < 256 ^ 4 = subst (λ (k : BmpCommonHeader). k .«msg_len» < 256 ^ 4) e (x .1 .reading .is-good .length-fits) in
     rw (eq-eqb (h .version) 3 v) (lt-ltb (h .«msg_len») (256 ^ 4) n)
 
 -- A type's number is one of the seven.

@@ -6,8 +6,9 @@ use lib.Dec.{ltb, eqb}
 use Rattle.wire.specs.Number as Number
 use Rattle.wire.specs.Bytes.{pick, has, numAt}
 use Rattle.wire.specs.Read.{refusal, cutAt}
+use Rattle.wire.specs.Exactly.{Reader}
 use Rattle.common_header.specs.Grammar.{Reading}
-use Rattle.common_header.specs.Shown.{shown}
+use Rattle.common_header.specs.Shown.{shown, grammar, refusalOf}
 use Rattle.common_header.specs.declared.CommonFields.{CommonFields}
 use Rattle.common_header.specs.declared.CommonHeaderAnswer.{CommonHeaderAnswer}
 
@@ -36,3 +37,7 @@ judged (CommonFields.Refused r) = CommonHeaderAnswer.Refused r
 
 abbrev pub readCommonHeader : List ℕ → CommonHeaderAnswer
 readCommonHeader s = pick (ltb Number.limit (length s)) (CommonHeaderAnswer.Refused (refusal Number.TooLong 0)) (judged (readFields s))
+
+-- the reader, and the grammar that it is held against
+abbrev pub reader : Reader
+reader = record { grammar = grammar; Answer = CommonHeaderAnswer; read = readCommonHeader; numberOf = λ a. refusalOf a .number; shown = shown }

@@ -1,86 +1,74 @@
--- For each header and body, and for a message on a stream: the reader accepts exactly the inputs that have a reading in the grammar that
--- fits the tables, the answer shows that reading, and no input has two. Assumes nothing.
+-- For each header and body, and for a message on a stream: the reader accepts exactly the inputs that have a reading in its grammar that
+-- fits the tables, the answer shows that reading, and no input has two. What this means is said once, in wire's `Exactly`. Assumes nothing.
 use mathlib.Core.Path.{refl}
+use Rattle.wire.specs.Exactly.{Exactly}
+use Rattle.wire.proofs.Exactly.{exactly-from}
 use Rattle.models.specs.declared.Afi.{Afi}
 use Rattle.models.specs.declared.AsnLength.{AsnLength}
 use Rattle.peer.specs.declared.BmpPeerType.{BmpPeerType}
-use Rattle.common_header.proofs.Promises as CommonHeader
-use Rattle.per_peer_header.proofs.Promises as PerPeerHeader
-use Rattle.splitter.proofs.Promises as Message
-use Rattle.initiation_message.proofs.Promises as Initiation
-use Rattle.termination_message.proofs.Promises as Termination
-use Rattle.route_monitoring.proofs.Promises as Monitoring
-use Rattle.route_mirroring.proofs.Promises as Mirroring
-use Rattle.stats_report.proofs.Promises as Statistics
-use Rattle.peer_down_notification.proofs.Promises as PeerDown
-use Rattle.peer_up_notification.proofs.Promises as PeerUp
-use Rattle.openbmp.proofs.Promises as OpenBmp
-use Rattle.exactly.specs.Exactly.{Exactly}
-use Rattle.exactly.specs.Readers.{commonHeader, perPeerHeader, message, initiation, termination, monitoring, mirroring, statistics, peerDown, peerUp, openBmp}
-use Rattle.exactly.proofs.Law.{exactly-from}
+use Rattle.common_header.specs.Read as CommonHeader
+use Rattle.common_header.proofs.Promises as CommonHeaderPromises
+use Rattle.per_peer_header.specs.Read as PerPeerHeader
+use Rattle.per_peer_header.proofs.Promises as PerPeerHeaderPromises
+use Rattle.splitter.specs.Read as Message
+use Rattle.splitter.proofs.Promises as MessagePromises
+use Rattle.initiation_message.specs.Read as Initiation
+use Rattle.initiation_message.proofs.Promises as InitiationPromises
+use Rattle.termination_message.specs.Read as Termination
+use Rattle.termination_message.proofs.Promises as TerminationPromises
+use Rattle.route_monitoring.specs.Read as Monitoring
+use Rattle.route_monitoring.proofs.Promises as MonitoringPromises
+use Rattle.route_mirroring.specs.Read as Mirroring
+use Rattle.route_mirroring.proofs.Promises as MirroringPromises
+use Rattle.stats_report.specs.Read as Statistics
+use Rattle.stats_report.proofs.Promises as StatisticsPromises
+use Rattle.peer_down_notification.specs.Read as PeerDown
+use Rattle.peer_down_notification.proofs.Promises as PeerDownPromises
+use Rattle.peer_up_notification.specs.Read as PeerUp
+use Rattle.peer_up_notification.proofs.Promises as PeerUpPromises
+use Rattle.openbmp.specs.Read as OpenBmp
+use Rattle.openbmp.proofs.Promises as OpenBmpPromises
 
-pub common-header-exactly : Exactly commonHeader
-common-header-exactly =
-    exactly-from commonHeader
-    (λ s p e. let x = CommonHeader.sound s p e in (x .0, record { good = x .1 .is-good; fits = tt; joined = x .1 .joined }))
-    (λ r g f short. CommonHeader.complete r g short) CommonHeader.unique (λ r. refl)
+-- the common header (RFC 7854, section 4.1)
+pub common-header-exactly : Exactly CommonHeader.reader
+common-header-exactly = exactly-from CommonHeader.reader CommonHeaderPromises.sound CommonHeaderPromises.complete CommonHeaderPromises.unique (λ r. refl)
 
-pub per-peer-header-exactly : Exactly perPeerHeader
-per-peer-header-exactly =
-    exactly-from perPeerHeader
-    (λ s p e. let x = PerPeerHeader.sound s p e in (x .0, record { good = x .1 .is-good; fits = tt; joined = x .1 .joined }))
-    (λ r g f short. PerPeerHeader.complete r g short) PerPeerHeader.unique (λ r. refl)
+-- the per-peer header (section 4.2)
+pub per-peer-header-exactly : Exactly PerPeerHeader.reader
+per-peer-header-exactly = exactly-from PerPeerHeader.reader PerPeerHeaderPromises.sound PerPeerHeaderPromises.complete PerPeerHeaderPromises.unique (λ r. refl)
 
-pub message-exactly : Exactly message
-message-exactly =
-    exactly-from message
-    (λ s p e. let x = Message.sound s p e in (x .0, record { good = x .1 .is-good; fits = tt; joined = x .1 .joined }))
-    (λ r g f short. Message.complete r g short) Message.unique (λ r. refl)
+-- a message on a stream, as the splitter cuts it off
+pub message-exactly : Exactly Message.reader
+message-exactly = exactly-from Message.reader MessagePromises.sound MessagePromises.complete MessagePromises.unique (λ r. refl)
 
-pub initiation-exactly : Exactly initiation
-initiation-exactly =
-    exactly-from initiation
-    (λ s p e. let x = Initiation.sound s p e in (x .0, record { good = x .1 .is-good; fits = x .1 .fits; joined = x .1 .joined }))
-    Initiation.complete Initiation.unique (λ r. refl)
+-- Initiation (section 4.3)
+pub initiation-exactly : Exactly Initiation.reader
+initiation-exactly = exactly-from Initiation.reader InitiationPromises.sound InitiationPromises.complete InitiationPromises.unique (λ r. refl)
 
-pub termination-exactly : Exactly termination
-termination-exactly =
-    exactly-from termination
-    (λ s p e. let x = Termination.sound s p e in (x .0, record { good = x .1 .is-good; fits = x .1 .fits; joined = x .1 .joined }))
-    Termination.complete Termination.unique (λ r. refl)
+-- Termination (section 4.5)
+pub termination-exactly : Exactly Termination.reader
+termination-exactly = exactly-from Termination.reader TerminationPromises.sound TerminationPromises.complete TerminationPromises.unique (λ r. refl)
 
-pub monitoring-exactly : (width : AsnLength) (peer : BmpPeerType) → Exactly (monitoring width peer)
-monitoring-exactly width peer =
-    exactly-from (monitoring width peer)
-    (λ s p e. let x = Monitoring.sound width peer s p e in (x .0, record { good = x .1 .is-good; fits = tt; joined = x .1 .joined }))
-    (λ r g f short. Monitoring.complete width peer r g short) Monitoring.unique (λ r. refl)
+-- Route Monitoring (section 4.6), for each AS length and type of peer
+pub monitoring-exactly : (width : AsnLength) (peer : BmpPeerType) → Exactly (Monitoring.reader width peer)
+monitoring-exactly width peer = exactly-from (Monitoring.reader width peer) (MonitoringPromises.sound width peer) (MonitoringPromises.complete width peer) MonitoringPromises.unique (λ r. refl)
 
-pub mirroring-exactly : Exactly mirroring
-mirroring-exactly =
-    exactly-from mirroring
-    (λ s p e. let x = Mirroring.sound s p e in (x .0, record { good = x .1 .is-good; fits = x .1 .fits; joined = x .1 .joined }))
-    Mirroring.complete Mirroring.unique (λ r. refl)
+-- Route Mirroring (section 4.7)
+pub mirroring-exactly : Exactly Mirroring.reader
+mirroring-exactly = exactly-from Mirroring.reader MirroringPromises.sound MirroringPromises.complete MirroringPromises.unique (λ r. refl)
 
-pub statistics-exactly : Exactly statistics
-statistics-exactly =
-    exactly-from statistics
-    (λ s p e. let x = Statistics.sound s p e in (x .0, record { good = x .1 .is-good; fits = x .1 .fits; joined = x .1 .joined }))
-    Statistics.complete Statistics.unique (λ r. refl)
+-- Statistics Report (section 4.8)
+pub statistics-exactly : Exactly Statistics.reader
+statistics-exactly = exactly-from Statistics.reader StatisticsPromises.sound StatisticsPromises.complete StatisticsPromises.unique (λ r. refl)
 
-pub peer-down-exactly : Exactly peerDown
-peer-down-exactly =
-    exactly-from peerDown
-    (λ s p e. let x = PeerDown.sound s p e in (x .0, record { good = x .1 .is-good; fits = tt; joined = x .1 .joined }))
-    (λ r g f short. PeerDown.complete r g short) PeerDown.unique (λ r. refl)
+-- Peer Down (section 4.9)
+pub peer-down-exactly : Exactly PeerDown.reader
+peer-down-exactly = exactly-from PeerDown.reader PeerDownPromises.sound PeerDownPromises.complete PeerDownPromises.unique (λ r. refl)
 
-pub peer-up-exactly : (afi : Afi) (peer : BmpPeerType) → Exactly (peerUp afi peer)
-peer-up-exactly afi peer =
-    exactly-from (peerUp afi peer)
-    (λ s p e. let x = PeerUp.sound afi peer s p e in (x .0, record { good = x .1 .is-good; fits = x .1 .fits; joined = x .1 .joined }))
-    (PeerUp.complete afi peer) (PeerUp.unique afi) (λ r. refl)
+-- Peer Up (section 4.10), for each family of its address and type of peer
+pub peer-up-exactly : (afi : Afi) (peer : BmpPeerType) → Exactly (PeerUp.reader afi peer)
+peer-up-exactly afi peer = exactly-from (PeerUp.reader afi peer) (PeerUpPromises.sound afi peer) (PeerUpPromises.complete afi peer) (PeerUpPromises.unique afi) (λ r. refl)
 
-pub open-bmp-exactly : Exactly openBmp
-open-bmp-exactly =
-    exactly-from openBmp
-    (λ s p e. let x = OpenBmp.sound s p e in (x .0, record { good = x .1 .is-good; fits = tt; joined = x .1 .joined }))
-    (λ r g f short. OpenBmp.complete r g short) OpenBmp.unique (λ r. refl)
+-- the OpenBMP header
+pub open-bmp-exactly : Exactly OpenBmp.reader
+open-bmp-exactly = exactly-from OpenBmp.reader OpenBmpPromises.sound OpenBmpPromises.complete OpenBmpPromises.unique (λ r. refl)

@@ -14,6 +14,8 @@ use Rattle.wire.proofs.Bytes.{bytes-be, bytes-append}
 use Rattle.wire.proofs.Views.{length-part, viewed-inside, bytes-viewed}
 use Rattle.wire.proofs.Walk.{no-tail}
 use Rattle.wire.proofs.Tlv.{put-tlv-long}
+use Rattle.wire.specs.Exactly.{Shows}
+use Rattle.initiation_message.specs.Read.{reader}
 use Rattle.writing.specs.Table.{parts, joined, allOk}
 use Rattle.writing.proofs.Table.{kept-below, kept-at}
 use Rattle.writing.proofs.Trip.{parts-back}
@@ -24,7 +26,7 @@ use Rattle.initiation_message.specs.declared.InitiationTlv.{InitiationTl
 use Rattle.initiation_message.specs.declared.InitiationMessage.{InitiationMessage}
 use Rattle.initiation_message.specs.declared.InitiationAnswer.{InitiationAnswer}
 use Rattle.initiation_message.proofs.Written.{fine-from}
-use Rattle.initiation_message.proofs.Shows.{Shows, ViewAt}
+use Rattle.initiation_message.proofs.Shows.{ViewAt}
 use Rattle.initiation_message.proofs.Trip.{kindOf-typeOf, ReadsBack}
 
 abbrev pub Inside : List ℕ → InitiationTlv → Type 0
@@ -68,21 +70,21 @@ inside-kept m b inside i h = subst (Inside b) (sym (kept-at (m .tlvs) (m .count)
 
 pub writable-from : (m : InitiationMessage) (b : List ℕ) → length (m .tlvs) ≡ places
     → ((i : ℕ) → i < m .count → Inside b (getD (m .tlvs) i zeroTlv))
-    → (q : Reading) → Shows (bytesOf m b) q → AllAt sizeOf (ViewAt (join q)) 0 (q .tlvs)
+    → (q : Reading) → Shows reader (bytesOf m b) q → AllAt sizeOf (ViewAt (join q)) 0 (q .tlvs)
     → ReadsBack m b (bytesOf m b) → writable m (length b) ≡ true
 writable-from m b long inside q x view-so r =
     let s = bytesOf m b in
     let same = subst (λ (a : InitiationAnswer). Same m b (a .message) s) (x .shown-so) (r .same) in
     let n : m .count ≡ length (q .tlvs) = same .count-same in
-    let few : m .count ≤ places = omega (arith, n, x .fits) in
+    let few : m .count ≤ places = omega (arith, n, x .reading .fits) in
     let k : length (kept m) ≡ m .count = length-take-le (m .count) (m .tlvs) (omega (arith, long, few)) in
-    let v : AllAt sizeOf (ViewAt s) 0 (q .tlvs) = subst (λ (z : List ℕ). AllAt sizeOf (ViewAt z) 0 (q .tlvs)) (x .joined) view-so in
+    let v : AllAt sizeOf (ViewAt s) 0 (q .tlvs) = subst (λ (z : List ℕ). AllAt sizeOf (ViewAt z) 0 (q .tlvs)) (x .reading .joined) view-so in
     let each : q .tlvs ≡ parts writer b (kept m) =
     parts-back writer sizeOf entry (ViewAt s) b (λ t u. SameTlv t b u s) zeroTlv (λ at x t. one-part b s at x t)
     (replicate (places - length (q .tlvs)) zeroTlv) (kept m) (q .tlvs) 0 (k ∙ n) v
     (λ i h. subst (λ (t : InitiationTlv). SameTlv t b (getD (shown q .message .tlvs) i zeroTlv) s) (sym (kept-at (m .tlvs) (m .count) i zeroTlv h)) (same .tlv-same i (kept-below (m .tlvs) (m .count) i h))) in
     let z : putTail (q .tail) ≡ [] =
-    no-tail putTlv (λ t. 4 + length (t .value)) put-tlv-long (parts writer b (kept m)) (putTail (q .tail)) (ap (λ (l : List Tlv). joinAll putTlv l (putTail (q .tail))) (sym each) ∙ x .joined) in
+    no-tail putTlv (λ t. 4 + length (t .value)) put-tlv-long (parts writer b (kept m)) (putTail (q .tail)) (ap (λ (l : List Tlv). joinAll putTlv l (putTail (q .tail))) (sym each) ∙ x .reading .joined) in
     let good : EachGood putTlv ReadTlv (parts writer b (kept m)) [] =
-    subst (λ (l : List Tlv). EachGood putTlv ReadTlv l []) each (subst (EachGood putTlv ReadTlv (q .tlvs)) z (x .is-good .each)) in
+    subst (λ (l : List Tlv). EachGood putTlv ReadTlv l []) each (subst (EachGood putTlv ReadTlv (q .tlvs)) z (x .reading .is-good .each)) in
     rw (le-ltb places (m .count) few) (all-fine b (kept m) good (inside-kept m b inside))

@@ -10,7 +10,8 @@ use Rattle.wire.specs.Tlv.{Tlv, sizeOf, stopAt}
 use Rattle.wire.specs.TlvAt.{tlvOf, tailOf}
 use Rattle.wire.specs.Walk as Walk
 use Rattle.wire.specs.Walk.{stop, bad, item, Kit, Out, good, refused, readFrom}
-use Rattle.initiation_message.specs.Shown.{places, entry, zeroTlv, goodAnswer, refusedAnswer}
+use Rattle.wire.specs.Exactly.{Reader}
+use Rattle.initiation_message.specs.Shown.{places, entry, zeroTlv, goodAnswer, refusedAnswer, grammar, shown}
 use Rattle.initiation_message.specs.declared.InitiationTlv.{InitiationTlv}
 use Rattle.initiation_message.specs.declared.InitiationAnswer.{InitiationAnswer}
 use Rattle.initiation_message.specs.declared.Step.{Step}
@@ -39,3 +40,7 @@ answer (refused r) = refusedAnswer r
 abbrev pub readInitiation : List ℕ → InitiationAnswer
 readInitiation s =
     pick (ltb Number.limit (length s)) (refusedAnswer (refusal Number.TooLong 0)) (answer (readFrom kit (length s) 0 s))
+
+-- the reader, and the grammar that it is held against
+abbrev pub reader : Reader
+reader = record { grammar = grammar; Answer = InitiationAnswer; read = readInitiation; numberOf = λ a. a .refusal .number; shown = shown }

@@ -7,7 +7,8 @@ use Rattle.wire.specs.View.{view}
 use Rattle.wire.specs.Parts.{shownFrom, endFrom}
 use Rattle.wire.specs.Tlv.{Tlv, sizeOf, Tail, stopAt}
 use Rattle.wire.specs.declared.Refusal.{Refusal}
-use Rattle.initiation_message.specs.Grammar.{Reading}
+use Rattle.wire.specs.Exactly.{Grammar}
+use Rattle.initiation_message.specs.Grammar.{Reading, join, Good}
 use Rattle.initiation_message.specs.declared.InitiationTlvType.{InitiationTlvType}
 use Rattle.initiation_message.specs.declared.InitiationTlvType.the-variants.{String, SysDescr, SysName, VrTableName, AdminLabel, Unknown}
 use Rattle.initiation_message.specs.declared.InitiationTlv.{InitiationTlv}
@@ -58,3 +59,7 @@ abbrev pub shown : Reading → InitiationAnswer
 shown r =
     goodAnswer (length (r .tlvs)) (endFrom sizeOf 0 (r .tlvs))
     (shownFrom sizeOf entry 0 (r .tlvs) ++ replicate (places - length (r .tlvs)) zeroTlv) (r .tail)
+
+-- the grammar, with what fits the table
+abbrev pub grammar : Grammar
+grammar = record { Reading = Reading; join = join; Good = Good; Fits = Fits }

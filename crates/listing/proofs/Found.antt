@@ -11,7 +11,7 @@ use Rattle.wire.specs.declared.Refusal.{Refusal}
 use Rattle.wire.specs.declared.View.{View}
 use Rattle.common_header.specs.Shown.{kindOf}
 use Rattle.common_header.specs.declared.BmpCommonHeader.{BmpCommonHeader}
-use Rattle.splitter.specs.Split.{splitOf}
+use Rattle.splitter.specs.Read.{splitOf}
 use Rattle.splitter.specs.declared.SplitAnswer.{SplitAnswer}
 use Rattle.message_answer.specs.Answer.{answerOf}
 use Rattle.listing.specs.Steps.{rowAt}

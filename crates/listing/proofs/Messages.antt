@@ -8,7 +8,7 @@ use lib.Seq.{drop-drop}
 use Rattle.wire.specs.View.{view}
 use Rattle.wire.specs.Parts.{joinAll, endFrom, AllAt}
 use Rattle.wire.specs.Walk.{Step, End, tail, fault, Walked, walk, next}
-use Rattle.splitter.specs.Split.{splitOf}
+use Rattle.splitter.specs.Read.{splitOf}
 use Rattle.splitter.specs.declared.SplitAnswer.{SplitAnswer}
 use Rattle.listing.specs.Listing.{Message, kit}
 use Rattle.listing.proofs.Rows.{split-off, Seen, none, refused, message, see}

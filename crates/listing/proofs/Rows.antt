@@ -19,7 +19,7 @@ use Rattle.common_header.specs.declared.BmpCommonHeader.{BmpCommonHeader}
 use Rattle.common_header.specs.declared.CommonHeaderAnswer.{CommonHeaderAnswer}
 use Rattle.common_header.proofs.Promises.{kind-known}
 use Rattle.splitter.specs.Shown.{refusalOf}
-use Rattle.splitter.specs.Split.{afterHeader, splitOf}
+use Rattle.splitter.specs.Read.{afterHeader, splitOf}
 use Rattle.splitter.specs.declared.SplitAnswer.{SplitAnswer}
 use Rattle.splitter.proofs.Laws.{Fitting, fitting-shown, judged-good}
 use Rattle.splitter.proofs.Promises.{refused-at-most}

@@ -10,7 +10,7 @@ use Rattle.wire.specs.View.{viewed}
 use Rattle.wire.specs.Walk.{Step, stop, bad, item, End, tail, fault, Walked, Kit, walk}
 use Rattle.common_header.specs.Shown.{kindOf}
 use Rattle.common_header.specs.declared.BmpCommonHeader.{BmpCommonHeader}
-use Rattle.splitter.specs.Split.{splitOf}
+use Rattle.splitter.specs.Read.{splitOf}
 use Rattle.splitter.specs.declared.SplitAnswer.{SplitAnswer}
 use Rattle.message_answer.specs.Answer.{answerOf}
 use Rattle.listing.specs.Text.{heading, messageLine, refusedLine, endLine}

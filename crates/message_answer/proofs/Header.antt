@@ -28,7 +28,7 @@ stop-inside s a e good =
 module _ (b : PeerBody) where
   shown-body : (h : Reading) (g : Good h) → length (join h) ≤ Number.limit → peerNumber b (join h) ≡ bodyNumber b (shownHeader h) (h .tail)
   shown-body h g short =
-      ap (behind b (join h)) (complete h g short) ∙ ap (λ (q : Reading). bodyNumber b (shownHeader h) (q .tail)) (parts-join h g)
+      ap (behind b (join h)) (complete h g tt short) ∙ ap (λ (q : Reading). bodyNumber b (shownHeader h) (q .tail)) (parts-join h g)
 
   pub peer-good : (h : Reading) → Good h → length (join h) ≤ Number.limit
       → (length (h .tail) ≤ Number.limit → bodyNumber b (shownHeader h) (h .tail) ≡ Number.Good) → peerNumber b (join h) ≡ Number.Good
@@ -40,6 +40,7 @@ module _ (b : PeerBody) where
     pub header-good : Good header
     pub joined : join header ≡ s
     pub short : length s ≤ Number.limit
+    pub tail-short : length (header .tail) ≤ Number.limit
     pub body-number : bodyNumber b (shownHeader header) (header .tail) ≡ Number.Good
 
   pub peer-sound : (s : List ℕ) → Bytes s → peerNumber b s ≡ Number.Good → Peer s
@@ -52,14 +53,15 @@ module _ (b : PeerBody) where
           let good = eqb-true (readPerPeerHeader s .refusal .number) Number.Good h in
           let x = sound s p good in
           let short = accepted s good .short in
-          let joined = x .1 .joined in
+          let joined = x .1 .reading .joined in
+          let whole : length (join (x .0)) ≤ Number.limit = subst (λ (l : List ℕ). length l ≤ Number.limit) (sym joined) short in
           record {
             header = x .0;
-            header-good = x .1 .is-good;
+            header-good = x .1 .reading .is-good;
             joined = joined;
             short = short;
+            tail-short = omega (arith, whole, length-join (x .0) (x .1 .reading .is-good));
             body-number =
-                sym (shown-body (x .0) (x .1 .is-good) (subst (λ (l : List ℕ). length l ≤ Number.limit) (sym joined) short))
-                ∙ ap (peerNumber b) joined ∙ e;
+                sym (shown-body (x .0) (x .1 .reading .is-good) whole) ∙ ap (peerNumber b) joined ∙ e;
           }
       go false h q = absurd (eqb-false (readPerPeerHeader s .refusal .number) Number.Good h q)

@@ -1,6 +1,6 @@
 -- What a user of a message's number relies on. Assumes nothing.
 use Prim.Native.Nat.{ℕ, _≤_, _<_}
-use mathlib.Core.Path.{_≡_, refl, sym, ap, subst}
+use mathlib.Core.Path.{_≡_, refl, sym, subst}
 use mathlib.Core.List.{List}
 use lib.ListN.{length}
 use Rattle.wire.specs.Number as Number
@@ -10,16 +10,15 @@ use Rattle.common_header.specs.declared.BmpMsgType.{BmpMsgType}
 use Rattle.common_header.specs.declared.BmpMsgType.the-variants.{RouteMonitoring, StatisticsReport, PeerDownNotification, PeerUpNotification, InitiationMessage, TerminationMessage, RouteMirroringMessage}
 use Rattle.per_peer_header.specs.Grammar as Header
 use Rattle.initiation_message.specs.declared.InitiationAnswer.{InitiationAnswer}
-use Rattle.initiation_message.proofs.Promises as Initiation
 use Rattle.termination_message.specs.declared.TerminationAnswer.{TerminationAnswer}
-use Rattle.termination_message.proofs.Promises as Termination
+use Rattle.exactly.proofs.Promises.{initiation-exactly, termination-exactly}
 use Rattle.message_answer.specs.Grammar.{Body, Message, initiation, termination, of-a-peer, HasReading}
 use Rattle.message_answer.specs.Answer.{peerNumber, answerOf}
 use Rattle.message_answer.specs.declared.PeerBody.{PeerBody}
 use Rattle.message_answer.specs.declared.PeerBody.the-variants.{Monitoring, Statistics, Down, Up, Mirroring}
 use Rattle.message_answer.proofs.Header.{peer-good, peer-sound}
 use Rattle.message_answer.proofs.Small.{initiation-small, termination-small, peer-small}
-use Rattle.message_answer.proofs.Bodies.{number-of, not-too-long, typeOf, body-sound, body-complete}
+use Rattle.message_answer.proofs.Bodies.{not-too-long, typeOf, body-sound, body-complete}
 
 -- ---- a number of 0 has a reading
 of-peer : (b : PeerBody) (s : List ℕ) → Bytes s → peerNumber b s ≡ Number.Good → HasReading (typeOf b) s
@@ -27,7 +26,7 @@ of-peer b s p e =
     let x = peer-sound b s p e in
     record {
       not-too-long = x .short;
-      message = of-a-peer (x .header) (x .header-good) (x .joined) (body-sound (x .header) b (x .header .tail) (x .header-good .tail-bytes) (x .body-number));
+      message = of-a-peer (x .header) (x .header-good) (x .joined) (body-sound (x .header) b (x .header .tail) (x .header-good .tail-bytes) (x .tail-short) (x .body-number));
     }
 
 pub answer-sound : (t : BmpMsgType) (s : List ℕ) → Bytes s → answerOf t s ≡ Number.Good → HasReading t s
@@ -37,17 +36,11 @@ answer-sound StatisticsReport s p e = of-peer Statistics s p e
 answer-sound PeerDownNotification s p e = of-peer Down s p e
 answer-sound PeerUpNotification s p e = of-peer Up s p e
 answer-sound InitiationMessage s p e =
-    let x = Initiation.sound s p e in
-    record {
-      not-too-long = not-too-long (λ (a : InitiationAnswer). a .refusal .number) _ _ (length s) refl e;
-      message = initiation (record { reading = x .0; is-good = x .1 .is-good; fits = x .1 .fits; joined = x .1 .joined });
-    }
+    let short = not-too-long (λ (a : InitiationAnswer). a .refusal .number) _ _ (length s) refl e in
+    record { not-too-long = short; message = initiation (initiation-exactly .only-readings s p short e) }
 answer-sound TerminationMessage s p e =
-    let x = Termination.sound s p e in
-    record {
-      not-too-long = not-too-long (λ (a : TerminationAnswer). a .refusal .number) _ _ (length s) refl e;
-      message = termination (record { reading = x .0; is-good = x .1 .is-good; fits = x .1 .fits; joined = x .1 .joined });
-    }
+    let short = not-too-long (λ (a : TerminationAnswer). a .refusal .number) _ _ (length s) refl e in
+    record { not-too-long = short; message = termination (termination-exactly .only-readings s p short e) }
 answer-sound RouteMirroringMessage s p e = of-peer Mirroring s p e
 
 -- ---- what has a reading has the number 0
@@ -63,10 +56,8 @@ answer-complete RouteMonitoring s (of-a-peer h g joined x) n = from-peer Monitor
 answer-complete StatisticsReport s (of-a-peer h g joined x) n = from-peer Statistics s h g joined x n
 answer-complete PeerDownNotification s (of-a-peer h g joined x) n = from-peer Down s h g joined x n
 answer-complete PeerUpNotification s (of-a-peer h g joined x) n = from-peer Up s h g joined x n
-answer-complete InitiationMessage s (initiation x) n =
-    number-of (answerOf InitiationMessage) (λ r g f k. ap (λ (a : InitiationAnswer). a .refusal .number) (Initiation.complete r g f k)) x n
-answer-complete TerminationMessage s (termination x) n =
-    number-of (answerOf TerminationMessage) (λ r g f k. ap (λ (a : TerminationAnswer). a .refusal .number) (Termination.complete r g f k)) x n
+answer-complete InitiationMessage s (initiation x) n = initiation-exactly .all-readings s n x
+answer-complete TerminationMessage s (termination x) n = termination-exactly .all-readings s n x
 answer-complete RouteMirroringMessage s (of-a-peer h g joined x) n = from-peer Mirroring s h g joined x n
 
 -- The number is 0 exactly where header and body have readings that fit their tables, and there are not too many bytes.

@@ -9,35 +9,20 @@ use mathlib.Core.Path.{_≡_}
 use mathlib.Core.List.{List}
 use lib.ListN.{length}
 use Rattle.wire.specs.Number as Number
+use Rattle.wire.specs.Exactly.{Readable}
 use Rattle.models.specs.declared.Afi.{Afi}
 use Rattle.models.specs.declared.Afi.the-variants.{Ipv4, Ipv6}
 use Rattle.common_header.specs.declared.BmpMsgType.{BmpMsgType}
 use Rattle.common_header.specs.declared.BmpMsgType.the-variants.{RouteMonitoring, StatisticsReport, PeerDownNotification, PeerUpNotification, InitiationMessage, TerminationMessage, RouteMirroringMessage}
 use Rattle.per_peer_header.specs.Grammar as Header
 use Rattle.per_peer_header.specs.Grammar.{AddressField, ipv4, ipv6, unused}
-use Rattle.route_monitoring.specs.Grammar as Monitoring
-use Rattle.stats_report.specs.Grammar as Statistics
-use Rattle.stats_report.specs.Shown as StatisticsTable
-use Rattle.peer_down_notification.specs.Grammar as Down
-use Rattle.peer_up_notification.specs.Grammar as Up
-use Rattle.peer_up_notification.specs.Shown as UpTable
-use Rattle.initiation_message.specs.Grammar as Initiation
-use Rattle.initiation_message.specs.Shown as InitiationTable
-use Rattle.termination_message.specs.Grammar as Termination
-use Rattle.termination_message.specs.Shown as TerminationTable
-use Rattle.route_mirroring.specs.Grammar as Mirroring
-use Rattle.route_mirroring.specs.Shown as MirroringTable
-
--- the bytes s have a good reading, by one part's grammar, that fits its table
-pub record Reads {R : Type 0} (Good Fits : R → Type 0) (join : R → List ℕ) (s : List ℕ) : Type 0 where
-  pub reading : R
-  pub is-good : Good reading
-  pub fits : Fits reading
-  pub joined : join reading ≡ s
-
--- a part without a table
-abbrev pub Always : {R : Type 0} → R → Type 0
-Always r = Unit {0}
+use Rattle.route_monitoring.specs.Shown as Monitoring
+use Rattle.stats_report.specs.Shown as Statistics
+use Rattle.peer_down_notification.specs.Shown as Down
+use Rattle.peer_up_notification.specs.Shown as Up
+use Rattle.initiation_message.specs.Shown as Initiation
+use Rattle.termination_message.specs.Shown as Termination
+use Rattle.route_mirroring.specs.Shown as Mirroring
 
 -- the family of the local address in a Peer Up is that of the address in its header; a Loc-RIB, which has none there, counts as IPv4
 abbrev pub familyOf : AddressField → Afi
@@ -47,15 +32,15 @@ familyOf (unused skipped) = Ipv4
 
 -- the body of each type that stands behind a per-peer header h; only that of a Peer Up goes by what h says
 pub data Body (h : Header.Reading) : BmpMsgType → List ℕ → Type 0 where
-  route-monitoring : {s : List ℕ} → Reads Monitoring.Good Always Monitoring.join s → Body h RouteMonitoring s
-  statistics : {s : List ℕ} → Reads Statistics.Good StatisticsTable.Fits Statistics.join s → Body h StatisticsReport s
-  peer-down : {s : List ℕ} → Reads Down.Good Always Down.join s → Body h PeerDownNotification s
-  peer-up : {s : List ℕ} → Reads (Up.Good (familyOf (h .address))) UpTable.Fits Up.join s → Body h PeerUpNotification s
-  route-mirroring : {s : List ℕ} → Reads Mirroring.Good MirroringTable.Fits Mirroring.join s → Body h RouteMirroringMessage s
+  route-monitoring : {s : List ℕ} → Readable Monitoring.grammar s → Body h RouteMonitoring s
+  statistics : {s : List ℕ} → Readable Statistics.grammar s → Body h StatisticsReport s
+  peer-down : {s : List ℕ} → Readable Down.grammar s → Body h PeerDownNotification s
+  peer-up : {s : List ℕ} → Readable (Up.grammar (familyOf (h .address))) s → Body h PeerUpNotification s
+  route-mirroring : {s : List ℕ} → Readable Mirroring.grammar s → Body h RouteMirroringMessage s
 
 pub data Message : BmpMsgType → List ℕ → Type 0 where
-  initiation : {s : List ℕ} → Reads Initiation.Good InitiationTable.Fits Initiation.join s → Message InitiationMessage s
-  termination : {s : List ℕ} → Reads Termination.Good TerminationTable.Fits Termination.join s → Message TerminationMessage s
+  initiation : {s : List ℕ} → Readable Initiation.grammar s → Message InitiationMessage s
+  termination : {s : List ℕ} → Readable Termination.grammar s → Message TerminationMessage s
   of-a-peer : {t : BmpMsgType} {s : List ℕ} (h : Header.Reading) → Header.Good h → Header.join h ≡ s → Body h t (h .tail) → Message t s
 
 pub record HasReading (t : BmpMsgType) (s : List ℕ) : Type 0 where

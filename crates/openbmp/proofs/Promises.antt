@@ -10,6 +10,7 @@ use Rattle.wire.specs.Bytes.{Bytes}
 use Rattle.wire.specs.Read.{cutAt}
 use Rattle.wire.specs.View.{viewed}
 use Rattle.wire.proofs.Determined.{determined}
+use Rattle.wire.specs.Exactly.{Sound, Complete, Unique}
 use Rattle.writing.specs.Write.{lengthOf, writeAnswer, written}
 use Rattle.writing.specs.declared.WriteAnswer.{WriteAnswer}
 use Rattle.writing.specs.declared.WriteAnswer.the-variants.{Written}
@@ -17,8 +18,8 @@ use Rattle.writing.proofs.Answers.{front}
 use Rattle.layout.specs.Layout.{firstCut}
 use Rattle.layout.proofs.Promises.{FirstLacking, first-lacking}
 use Rattle.openbmp.specs.Grammar.{Reading, join, Good}
-use Rattle.openbmp.specs.Shown.{shownHeader, shown}
-use Rattle.openbmp.specs.Read.{readOpenBmpHeader}
+use Rattle.openbmp.specs.Shown.{shownHeader, shown, grammar}
+use Rattle.openbmp.specs.Read.{readOpenBmpHeader, reader}
 use Rattle.openbmp.specs.Write.{readingOf, bytesOf, writable, Typed, Same}
 use Rattle.openbmp.specs.declared.OpenBmpHeader.{OpenBmpHeader}
 use Rattle.openbmp.specs.declared.OpenBmpAnswer.{OpenBmpAnswer}
@@ -27,24 +28,18 @@ use Rattle.openbmp.proofs.Stages.{accepted, shows-parts}
 use Rattle.openbmp.proofs.Cuts.{widthsIn, header-lacks}
 use Rattle.openbmp.proofs.Trip.{admin-viewed, group-viewed, bytes-written, good-reading, short-enough, same-again, again-writable}
 
--- the answer to s shows r, and r is a good reading of s
-pub record Shows (s : List ℕ) (r : Reading) : Type 0 where
-  pub is-good : Good r
-  pub joined : join r ≡ s
-  pub shown-so : readOpenBmpHeader s ≡ shown r
-
 -- What the reader accepts has a good reading, which it shows.
-pub sound : (s : List ℕ) → Bytes s → readOpenBmpHeader s .refusal .number ≡ Number.Good → (r : Reading) × Shows s r
+pub sound : Sound reader
 sound s p e =
     let a = accepted s e in
-    (partsIn s, record { is-good = parts-good p a; joined = join-parts p (a .long); shown-so = shows-parts s a })
+    (partsIn s, record { reading = record { is-good = parts-good p a; fits = tt; joined = join-parts p (a .long) }; shown-so = shows-parts s a })
 
 -- Every good reading is accepted, and shown.
-pub complete : (r : Reading) → Good r → length (join r) ≤ Number.limit → readOpenBmpHeader (join r) ≡ shown r
-complete r g short = shows-parts (join r) (join-accepted r g short) ∙ ap shown (parts-join r g)
+pub complete : Complete reader
+complete r g f short = shows-parts (join r) (join-accepted r g short) ∙ ap shown (parts-join r g)
 
 -- No input has two readings.
-pub unique : (r q : Reading) → Good r → Good q → join r ≡ join q → r ≡ q
+pub unique : Unique grammar
 unique r q g h e = sym (parts-join r g) ∙ ap partsIn e ∙ parts-join q h
 
 -- A header that is cut is refused at the first field that lacks bytes, by the widths that the lengths in it give.
@@ -70,7 +65,7 @@ module _ (h : OpenBmpHeader) (b : List ℕ) (t : Typed h) (p : Bytes b) where
   reads-back : writable h (length b) ≡ true → ReadsBack h b (bytesOf h b)
   reads-back w =
       let g = good-reading h b t p w in
-      let a = complete (readingOf h b) g (short-enough h b t p w) in
+      let a = complete (readingOf h b) g tt (short-enough h b t p w) in
       record {
         read-good = ap (λ (x : OpenBmpAnswer). x .refusal .number) a;
         whole = ap (λ (x : OpenBmpAnswer). x .stop) a ∙ omega (arith, length-join (readingOf h b) g);
@@ -93,7 +88,7 @@ module _ (h : OpenBmpHeader) (b : List ℕ) (t : Typed h) (p : Bytes b) where
       let s = bytesOf h b in
       let x = sound s (bytes-written h b t p) (r .read-good) in
       let same = subst (λ (a : OpenBmpAnswer). Same h b (a .header) s) (x .1 .shown-so) (r .same) in
-      again-writable h b t p admin group (x .0) (x .1 .is-good) (subst (Same h b (shownHeader (x .0))) (sym (x .1 .joined)) same)
+      again-writable h b t p admin group (x .0) (x .1 .reading .is-good) (subst (Same h b (shownHeader (x .0))) (sym (x .1 .reading .joined)) same)
 
 -- ---- any two answers, and any two outputs, that the contracts allow are equal
 pub parse-determined : (s : List ℕ) (a b : OpenBmpAnswer) → a ≡ readOpenBmpHeader s → b ≡ readOpenBmpHeader s → a ≡ b

@@ -8,12 +8,13 @@ use lib.ListN.{length, take, drop}
 use Rattle.wire.specs.Number as Number
 use Rattle.wire.specs.Bytes.{pick, numAt, numberAt}
 use Rattle.wire.specs.Read.{refusal}
+use Rattle.wire.specs.Exactly.{Reader}
 use Rattle.layout.specs.Layout.{cutIn}
 use Rattle.models.specs.declared.Afi.{Afi}
 use Rattle.models.specs.declared.Afi.the-variants.{Ipv4, Ipv6}
 use Rattle.peer.specs.Peer.{flag}
 use Rattle.openbmp.specs.Grammar.{widths, RouterIp, ipv4, ipv6, Reading}
-use Rattle.openbmp.specs.Shown.{shown, refused}
+use Rattle.openbmp.specs.Shown.{shown, refused, grammar}
 use Rattle.openbmp.specs.declared.OpenBmpAnswer.{OpenBmpAnswer}
 
 -- the sixteen bytes of an address taken apart by its family, and the family by the flags
@@ -92,3 +93,7 @@ abbrev pub readOpenBmpHeader : List ℕ → OpenBmpAnswer
 readOpenBmpHeader s =
     pick (ltb Number.limit (length s)) (refused (refusal Number.TooLong 0))
     (pick (ltb (length s) 4) (cut (length s) 0 0) (afterMagic s (numberAt 4 s 0)))
+
+-- the reader, and the grammar that it is held against
+abbrev pub reader : Reader
+reader = record { grammar = grammar; Answer = OpenBmpAnswer; read = readOpenBmpHeader; numberOf = λ a. a .refusal .number; shown = shown }

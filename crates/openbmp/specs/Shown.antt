@@ -6,11 +6,12 @@ use lib.Ieee.{binary64, ofBits}
 use Rattle.wire.specs.Read.{noRefusal}
 use Rattle.wire.specs.View.{view}
 use Rattle.wire.specs.declared.Refusal.{Refusal}
+use Rattle.wire.specs.Exactly.{Grammar, noTable}
 use Rattle.models.specs.Address.{unspecified}
 use Rattle.models.specs.Time.{timeOf}
 use Rattle.models.specs.declared.Afi.the-variants.{Ipv4, Ipv6}
 use Rattle.models.specs.declared.IpAddr.{IpAddr}
-use Rattle.openbmp.specs.Grammar.{RouterIp, ipv4, ipv6, Reading}
+use Rattle.openbmp.specs.Grammar.{RouterIp, ipv4, ipv6, Reading, join, Good}
 use Rattle.openbmp.specs.declared.OpenBmpHeader.{OpenBmpHeader}
 use Rattle.openbmp.specs.declared.OpenBmpAnswer.{OpenBmpAnswer}
 
@@ -58,3 +59,7 @@ zeroHeader =
 
 abbrev pub refused : Refusal → OpenBmpAnswer
 refused r = record { refusal = r; stop = 0; header = zeroHeader }
+
+-- the grammar; there is no table
+abbrev pub grammar : Grammar
+grammar = record { Reading = Reading; join = join; Good = Good; Fits = noTable }

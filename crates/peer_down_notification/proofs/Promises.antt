@@ -9,36 +9,31 @@ use Rattle.wire.specs.Number as Number
 use Rattle.wire.specs.Bytes.{be, Bytes, none}
 use Rattle.wire.proofs.Bytes.{bytes-be, bytes-append}
 use Rattle.wire.proofs.Determined.{determined}
+use Rattle.wire.specs.Exactly.{Sound, Complete, Unique}
 use Rattle.writing.specs.Write.{lengthOf, writeAnswer, written}
 use Rattle.writing.specs.declared.WriteAnswer.{WriteAnswer}
 use Rattle.writing.specs.declared.WriteAnswer.the-variants.{Written}
 use Rattle.writing.proofs.Answers.{front}
 use Rattle.peer_down_notification.specs.Grammar.{Data, Reading, join, Follows, Good}
-use Rattle.peer_down_notification.specs.Shown.{kindOf, shownData, shown, refusalOf, stopOf, notificationOf, viewOf}
-use Rattle.peer_down_notification.specs.Read.{partsOf, readPeerDown}
+use Rattle.peer_down_notification.specs.Shown.{kindOf, shownData, shown, refusalOf, stopOf, notificationOf, viewOf, grammar}
+use Rattle.peer_down_notification.specs.Read.{partsOf, readPeerDown, reader}
 use Rattle.peer_down_notification.specs.Write.{dataOf, readingOf, bytesOf, writable, Same}
 use Rattle.peer_down_notification.specs.declared.PeerDownNotification.{PeerDownNotification}
 use Rattle.peer_down_notification.specs.declared.PeerDownAnswer.{PeerDownAnswer}
 use Rattle.peer_down_notification.proofs.Laws.{known-of, reason-there, parts-join, Accepted, parts-good, accepted, shows-parts}
 use Rattle.peer_down_notification.proofs.Trip.{reason-back, kind-back, data-shown, fine-from, good-of, bytes-data, fine-back, ReadsBack, stop-whole, no-more}
 
--- the answer to s shows r, and r is a good reading of s
-pub record Shows (s : List ℕ) (r : Reading) : Type 0 where
-  pub is-good : Good r
-  pub joined : join r ≡ s
-  pub shown-so : readPeerDown s ≡ shown r
-
 -- What the reader accepts has a good reading, which it shows.
-pub sound : (s : List ℕ) → Bytes s → refusalOf (readPeerDown s) .number ≡ Number.Good → (r : Reading) × Shows s r
+pub sound : Sound reader
 sound s p e =
     let a = accepted s e in
     let g = parts-good s p a in
-    (partsOf s, record { is-good = g .0; joined = g .1; shown-so = shows-parts s a })
+    (partsOf s, record { reading = record { is-good = g .0; fits = tt; joined = g .1 }; shown-so = shows-parts s a })
 
 -- Every good reading is accepted, and shown.
-pub complete : (r : Reading) → Good r → length (join r) ≤ Number.limit → readPeerDown (join r) ≡ shown r
+pub complete : Complete reader
 unfolding be
-complete r g short =
+complete r g f short =
     let a : Accepted (join r) =
     record {
       short = short;
@@ -48,7 +43,7 @@ complete r g short =
     shows-parts (join r) a ∙ ap shown (parts-join r g)
 
 -- No input has two readings.
-pub unique : (r q : Reading) → Good r → Good q → join r ≡ join q → r ≡ q
+pub unique : Unique grammar
 unique r q g h e = sym (parts-join r g) ∙ ap partsOf e ∙ parts-join q h
 
 -- The view of the data, in the answer that shows a reading, shows that reading's data.
@@ -57,7 +52,7 @@ views r = data-shown (r .reason) (r .data-part) (r .tail)
 
 reads-back : (m : PeerDownNotification) (b : List ℕ) → Bytes b → writable m (length b) ≡ true → length (bytesOf m b) ≤ Number.limit → ReadsBack m b (bytesOf m b)
 reads-back m b p w short =
-    let a = complete (readingOf m b) (good-of m b p w) short in
+    let a = complete (readingOf m b) (good-of m b p w) tt short in
     record {
       read-good = ap (λ (y : PeerDownAnswer). refusalOf y .number) a;
       whole = ap stopOf a ∙ stop-whole (kindOf (m .reason)) (dataOf b (m .«data»));
@@ -82,13 +77,13 @@ only-writable m b p inside r =
     let bytes : Bytes s = bytes-append (bytes-be 1 (kindOf (m .reason))) (bytes-append (bytes-data b p (m .«data»)) none) in
     let x = sound s bytes (r .read-good) in
     let q = x .0 in
-    let g = x .1 .is-good in
+    let g = x .1 .reading .is-good in
     let same = subst (λ (a : PeerDownAnswer). Same m b (notificationOf a) s) (x .1 .shown-so) (r .same) in
     let reason-is : q .reason ≡ kindOf (m .reason) =
     sym (ap kindOf (same .reason-same) ∙ kind-back (q .reason) (known-of (q .reason) (q .data-part) (q .tail) (g .follows))) in
     let data-is : q .data-part ≡ dataOf b (m .«data») =
-    sym (same .data-same ∙ subst (λ (l : List ℕ). dataOf l (shownData (q .data-part)) ≡ q .data-part) (x .1 .joined) (views q)) in
-    let tail-is : q .tail ≡ [] = no-more (kindOf (m .reason)) (q .reason) (dataOf b (m .«data»)) (q .data-part) (q .tail) data-is (x .1 .joined) in
+    sym (same .data-same ∙ subst (λ (l : List ℕ). dataOf l (shownData (q .data-part)) ≡ q .data-part) (x .1 .reading .joined) (views q)) in
+    let tail-is : q .tail ≡ [] = no-more (kindOf (m .reason)) (q .reason) (dataOf b (m .«data»)) (q .data-part) (q .tail) data-is (x .1 .reading .joined) in
     let f : Follows (kindOf (m .reason)) (dataOf b (m .«data»)) [] =
     subst (λ (l : List ℕ). Follows (kindOf (m .reason)) (dataOf b (m .«data»)) l) tail-is
     (subst (λ (d : Data). Follows (kindOf (m .reason)) d (q .tail)) data-is

@@ -8,8 +8,9 @@ use Rattle.wire.specs.Number as Number
 use Rattle.wire.specs.Bytes.{pick, has, numAt}
 use Rattle.wire.specs.Read.{refusal, cutAt}
 use Rattle.wire.specs.View.{view}
+use Rattle.wire.specs.Exactly.{Reader}
 use Rattle.peer_down_notification.specs.Grammar.{absent, present, Reading}
-use Rattle.peer_down_notification.specs.Shown.{reasonOf}
+use Rattle.peer_down_notification.specs.Shown.{reasonOf, grammar, shown, refusalOf}
 use Rattle.peer_down_notification.specs.declared.PeerDownData.the-variants.{Absent, Present}
 use Rattle.peer_down_notification.specs.declared.PeerDownAnswer.{PeerDownAnswer}
 
@@ -37,3 +38,7 @@ readPeerDown s =
     (pick (has 1 s 0)
     (pick (ltb 6 (numAt 1 s 0)) (PeerDownAnswer.Refused (refusal Number.UnknownKind 0)) (goodOf (numAt 1 s 0) (length s - 1)))
     (PeerDownAnswer.Refused (cutAt 0)))
+
+-- the reader, and the grammar that it is held against
+abbrev pub reader : Reader
+reader = record { grammar = grammar; Answer = PeerDownAnswer; read = readPeerDown; numberOf = λ a. refusalOf a .number; shown = shown }

@@ -7,7 +7,8 @@ use Rattle.wire.specs.Read.{noRefusal}
 use Rattle.wire.specs.View.{view}
 use Rattle.wire.specs.declared.Refusal.{Refusal}
 use Rattle.wire.specs.declared.View.{View}
-use Rattle.peer_down_notification.specs.Grammar.{Data, absent, present, Reading}
+use Rattle.wire.specs.Exactly.{Grammar, noTable}
+use Rattle.peer_down_notification.specs.Grammar.{Data, absent, present, Reading, join, Good}
 use Rattle.peer_down_notification.specs.declared.PeerDownReason.{PeerDownReason}
 use Rattle.peer_down_notification.specs.declared.PeerDownReason.the-variants.{Reserved, LocalSystemClosedNotificationPduFollows, LocalSystemClosedFsmEvenFollows, RemoteSystemClosedNotificationPduFollows, RemoteSystemsClosedNoData, PeerDeConfigured, LocalSystemClosedTlvDataFollows}
 use Rattle.peer_down_notification.specs.declared.PeerDownData.{PeerDownData}
@@ -70,3 +71,7 @@ isPresent (Present v) = true
 abbrev pub viewOf : PeerDownData → View
 viewOf Absent = view 0 0
 viewOf (Present v) = v
+
+-- the grammar; there is no table
+abbrev pub grammar : Grammar
+grammar = record { Reading = Reading; join = join; Good = Good; Fits = noTable }

@@ -14,6 +14,7 @@ use Rattle.wire.specs.View.{viewed}
 use Rattle.wire.specs.declared.View.{View}
 use Rattle.wire.proofs.Bytes.{bytes-append, bytes-be, bytes-take, bytes-drop, num-lt}
 use Rattle.wire.proofs.Views.{bytes-viewed}
+use Rattle.wire.specs.Exactly.{Shows}
 use Rattle.writing.specs.Table.{parts, joined, allOk}
 use Rattle.writing.proofs.Table.{kept-each}
 use Rattle.writing.proofs.Trip.{parts-back}
@@ -22,7 +23,7 @@ use Rattle.models.proofs.Promises.{equals-is-equality}
 use Rattle.peer.specs.declared.BmpPeerType.{BmpPeerType}
 use Rattle.peer_up_notification.specs.Grammar.{messageBytes, ReadTlv, skippedFor, Reading, join}
 use Rattle.peer_up_notification.specs.Shown.{kindOf, zeroTlv, places, entry, tlvsAt, shownAddress, shown}
-use Rattle.peer_up_notification.specs.Read.{localAddress}
+use Rattle.peer_up_notification.specs.Read.{localAddress, reader}
 use Rattle.peer_up_notification.specs.Write.{openOf, partOf, addressWritable, openWritable, writer, kept, bytesOf, tlvsWritable, writable, Typed, SameTlv, Same}
 use Rattle.peer_up_notification.specs.declared.PeerUpNotificationTlv.{PeerUpNotificationTlv}
 use Rattle.peer_up_notification.specs.declared.PeerUpNotification.{PeerUpNotification}
@@ -30,7 +31,7 @@ use Rattle.peer_up_notification.specs.declared.PeerUpAnswer.{PeerUpAnswe
 use Rattle.peer_up_notification.proofs.Names.{kindOf-typeOf}
 use Rattle.peer_up_notification.proofs.Opens.{OneMessage, one-message}
 use Rattle.peer_up_notification.proofs.Written.{fine-from, open-from, view-long}
-use Rattle.peer_up_notification.proofs.Shows.{Shows, ViewAt, ShowsParts}
+use Rattle.peer_up_notification.proofs.Shows.{ViewAt, ShowsParts}
 use Rattle.peer_up_notification.proofs.Trip.{zeros-bytes, ReadsBack}
 
 -- what the reader does not ask of a record, and the writer does: its views lie inside the buffer
@@ -98,7 +99,7 @@ bytes-written m b p t =
 
 -- ---- the whole record
 module _ (peer : BmpPeerType) (m : PeerUpNotification) (b : List ℕ) (p : Bytes b) (t : Typed m) (inside : Inside m b) (q : Reading)
-    (x : Shows (m .«local_addr» .afi) peer (bytesOf m b) q) (v : ShowsParts (bytesOf m b) (shown (m .«local_addr» .afi) peer q) q)
+    (x : Shows (reader (m .«local_addr» .afi) peer) (bytesOf m b) q) (v : ShowsParts (bytesOf m b) (shown (m .«local_addr» .afi) peer q) q)
     (same : Same m b (shown (m .«local_addr» .afi) peer q .message) (bytesOf m b)) where
   address-fits : addressWritable (m .«local_addr») ≡ true
   address-fits =
@@ -111,25 +112,25 @@ module _ (peer : BmpPeerType) (m : PeerUpNotification) (b : List ℕ) (p : Bytes
   sent-fits : openWritable b (m .«sent_open») ≡ true
   sent-fits =
       fine-open p (m .«sent_open») (inside .sent-inside)
-      (subst OneMessage (sym (same .sent-same ∙ v .sent-shown)) (one-message (q .sentOpen) (x .is-good .sent-good)))
+      (subst OneMessage (sym (same .sent-same ∙ v .sent-shown)) (one-message (q .sentOpen) (x .reading .is-good .sent-good)))
 
   received-fits : openWritable b (m .«received_open») ≡ true
   received-fits =
       fine-open p (m .«received_open») (inside .received-inside)
-      (subst OneMessage (sym (same .received-same ∙ v .received-shown)) (one-message (q .receivedOpen) (x .is-good .received-good)))
+      (subst OneMessage (sym (same .received-same ∙ v .received-shown)) (one-message (q .receivedOpen) (x .reading .is-good .received-good)))
 
   tlvs-fit : tlvsWritable m (length b) ≡ true
   tlvs-fit =
       let s = bytesOf m b in
       let n : m .count ≡ length (q .tlvs) = same .count-same in
-      let few : m .count ≤ places = omega (arith, n, x .fits) in
+      let few : m .count ≤ places = omega (arith, n, x .reading .fits) in
       let k : length (kept m) ≡ m .count = length-take-le (m .count) (m .tlvs) (omega (arith, t .table-long, few)) in
       let each : q .tlvs ≡ parts writer b (kept m) =
       parts-back writer sizeOf entry (ViewAt s) b (λ t u. SameTlv t b u s) zeroTlv (λ at x t. one-part b s at x t)
       (replicate (places - length (q .tlvs)) zeroTlv) (kept m) (q .tlvs) (tlvsAt q) (k ∙ n) (v .tlvs-shown)
       (kept-each (λ i t. SameTlv t b (getD (shown (m .«local_addr» .afi) peer q .message .tlvs) i zeroTlv) s) (m .tlvs) (m .count) zeroTlv (same .tlv-same)) in
       rw (le-ltb places (m .count) few) (all-fine b (kept m) (q .tail)
-      (subst (λ (l : List Tlv). EachGood putTlv ReadTlv l (q .tail)) each (x .is-good .each))
+      (subst (λ (l : List Tlv). EachGood putTlv ReadTlv l (q .tail)) each (x .reading .is-good .each))
       (kept-each (λ i t. Within b (t .«info_value»)) (m .tlvs) (m .count) zeroTlv (inside .tlvs-inside)))
 
   all-fits : writable m b ≡ true
@@ -141,9 +142,9 @@ module _ (peer : BmpPeerType) (m : PeerUpNotification) (b : List ℕ) (p : Bytes
       (address-fits, and-eq-true-iff sent (received && tlvs) .1 (sent-fits, and-eq-true-iff received tlvs .1 (received-fits, tlvs-fit)))
 
 pub writable-from : (peer : BmpPeerType) (m : PeerUpNotification) (b : List ℕ) → Bytes b → Typed m → Inside m b → (q : Reading)
-    → Shows (m .«local_addr» .afi) peer (bytesOf m b) q → ShowsParts (join q) (shown (m .«local_addr» .afi) peer q) q
+    → Shows (reader (m .«local_addr» .afi) peer) (bytesOf m b) q → ShowsParts (join q) (shown (m .«local_addr» .afi) peer q) q
     → ReadsBack peer m b (bytesOf m b) → writable m b ≡ true
 writable-from peer m b p t inside q x v r =
     let afi = m .«local_addr» .afi in
-    all-fits peer m b p t inside q x (subst (λ (z : List ℕ). ShowsParts z (shown afi peer q) q) (x .joined) v)
+    all-fits peer m b p t inside q x (subst (λ (z : List ℕ). ShowsParts z (shown afi peer q) q) (x .reading .joined) v)
     (subst (λ (a : PeerUpAnswer). Same m b (a .message) (bytesOf m b)) (x .shown-so) (r .same))

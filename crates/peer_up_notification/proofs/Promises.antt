@@ -8,6 +8,7 @@ use lib.ListN.{length, take, length-take}
 use Rattle.wire.specs.Number as Number
 use Rattle.wire.specs.Bytes.{Bytes}
 use Rattle.wire.proofs.Determined.{determined}
+use Rattle.wire.specs.Exactly.{Sound, Complete, Unique}
 use Rattle.writing.specs.Write.{lengthOf, writeAnswer, written}
 use Rattle.writing.specs.declared.WriteAnswer.{WriteAnswer}
 use Rattle.writing.specs.declared.WriteAnswer.the-variants.{Written}
@@ -16,25 +17,23 @@ use Rattle.writing.proofs.Table.{length-parts}
 use Rattle.models.specs.declared.Afi.{Afi}
 use Rattle.peer.specs.declared.BmpPeerType.{BmpPeerType}
 use Rattle.peer_up_notification.specs.Grammar.{Reading, join, Good}
-use Rattle.peer_up_notification.specs.Shown.{Fits, shown}
-use Rattle.peer_up_notification.specs.Read.{readPeerUp}
+use Rattle.peer_up_notification.specs.Shown.{Fits, shown, grammar}
+use Rattle.peer_up_notification.specs.Read.{readPeerUp, reader}
 use Rattle.peer_up_notification.specs.Write.{writer, kept, readingOf, bytesOf, writable, Typed}
 use Rattle.peer_up_notification.specs.declared.PeerUpNotification.{PeerUpNotification}
 use Rattle.peer_up_notification.specs.declared.PeerUpAnswer.{PeerUpAnswer}
 use Rattle.peer_up_notification.proofs.Sound.{accepted, reading-of, same-reading}
 use Rattle.peer_up_notification.proofs.Written.{writes-of}
-use Rattle.peer_up_notification.proofs.Shows.{Shows, shown-all, ShowsParts, shows-parts}
+use Rattle.peer_up_notification.proofs.Shows.{shown-all, ShowsParts, shows-parts}
 use Rattle.peer_up_notification.proofs.Trip.{good-of, ReadsBack, reads-back}
 use Rattle.peer_up_notification.proofs.Converse.{Inside, bytes-written, writable-from}
 
 -- Every good reading that fits is accepted, and shown.
-pub complete : (afi : Afi) (peer : BmpPeerType) (r : Reading) → Good afi r → Fits r → length (join r) ≤ Number.limit
-    → readPeerUp afi peer (join r) ≡ shown afi peer r
+pub complete : (afi : Afi) (peer : BmpPeerType) → Complete (reader afi peer)
 complete afi peer r g f short = shown-all afi r g peer f short
 
 -- What the reader accepts has a good reading that fits, and it shows that reading.
-pub sound : (afi : Afi) (peer : BmpPeerType) (s : List ℕ) → Bytes s → readPeerUp afi peer s .refusal .number ≡ Number.Good
-    → (r : Reading) × Shows afi peer s r
+pub sound : (afi : Afi) (peer : BmpPeerType) → Sound (reader afi peer)
 sound afi peer s p e =
     let a = accepted afi peer s e in
     let q = reading-of afi s p a in
@@ -42,15 +41,13 @@ sound afi peer s p e =
     let short : length (join r) ≤ Number.limit = subst (λ (x : List ℕ). length x ≤ Number.limit) (sym (q .3)) (a .short) in (
       r,
       record {
-        is-good = q .1;
-        fits = q .2;
-        joined = q .3;
+        reading = record { is-good = q .1; fits = q .2; joined = q .3 };
         shown-so = subst (λ (x : List ℕ). readPeerUp afi peer x ≡ shown afi peer r) (q .3) (complete afi peer r (q .1) (q .2) short);
       },
     )
 
 -- No input has two readings for one family, whatever the table holds.
-pub unique : (afi : Afi) (r q : Reading) → Good afi r → Good afi q → join r ≡ join q → r ≡ q
+pub unique : (afi : Afi) → Unique (grammar afi)
 unique = same-reading
 
 -- In the answer that shows a good reading, the views of the two messages show their bytes, and the view of each TLV its value.
@@ -78,7 +75,7 @@ pub only-writable : (peer : BmpPeerType) (m : PeerUpNotification) (b : List ℕ)
 only-writable peer m b p t inside r =
     let afi = m .«local_addr» .afi in
     let q = sound afi peer (bytesOf m b) (bytes-written m b p t) (r .read-good) in
-    writable-from peer m b p t inside (q .0) (q .1) (views afi peer (q .0) (q .1 .is-good)) r
+    writable-from peer m b p t inside (q .0) (q .1) (views afi peer (q .0) (q .1 .reading .is-good)) r
 
 -- ---- any two answers, and any two outputs, that the contracts allow are equal
 pub parse-determined : (afi : Afi) (peer : BmpPeerType) (s : List ℕ) (a b : PeerUpAnswer) → a ≡ readPeerUp afi peer s → b ≡ readPeerUp afi peer s → a ≡ b

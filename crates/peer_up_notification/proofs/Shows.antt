@@ -28,13 +28,6 @@ use Rattle.peer_up_notification.proofs.Names.{heads-shown}
 use Rattle.peer_up_notification.proofs.Laws.{laws, tails}
 use Rattle.peer_up_notification.proofs.Opens.{MessageAt, message-at}
 
--- the answer to s shows r, and r is a good reading of s that fits the table
-pub record Shows (afi : Afi) (peer : BmpPeerType) (s : List ℕ) (r : Reading) : Type 0 where
-  pub is-good : Good afi r
-  pub fits : Fits r
-  pub joined : join r ≡ s
-  pub shown-so : readPeerUp afi peer s ≡ shown afi peer r
-
 -- the sixteen bytes of an address
 pub address-field : (afi : Afi) → skippedFor afi + addressFor afi ≡ 16
 address-field Ipv4 = refl

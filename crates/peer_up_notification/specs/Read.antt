@@ -13,13 +13,14 @@ use Rattle.wire.specs.TlvAt.{tlvOf}
 use Rattle.wire.specs.Walk as Walk
 use Rattle.wire.specs.Walk.{stop, bad, item, from, Kit, Out, good, refused, readFrom}
 use Rattle.wire.specs.declared.View.{View}
+use Rattle.wire.specs.Exactly.{Reader}
 use Rattle.layout.specs.Layout.{cutIn, sixteenAt}
 use Rattle.models.specs.declared.Afi.{Afi}
 use Rattle.models.specs.declared.IpAddr.{IpAddr}
 use Rattle.peer.specs.declared.BmpPeerType.{BmpPeerType}
 use Rattle.peer_up_notification.specs.Grammar.{widths, skippedFor}
 use Rattle.peer_up_notification.specs.Warnings.{Head, some, isTableName, badTableName, warningsOf}
-use Rattle.peer_up_notification.specs.Shown.{kindOf, places, entry, zeroTlv, sentAt, shownAddress, messageOf, goodAnswer, refusedAnswer}
+use Rattle.peer_up_notification.specs.Shown.{kindOf, places, entry, zeroTlv, sentAt, shownAddress, messageOf, goodAnswer, refusedAnswer, grammar, shown}
 use Rattle.peer_up_notification.specs.declared.PeerUpNotificationTlv.{PeerUpNotificationTlv}
 use Rattle.peer_up_notification.specs.declared.PeerUpAnswer.{PeerUpAnswer}
 use Rattle.peer_up_notification.specs.declared.Front.{Front}
@@ -106,3 +107,8 @@ readPeerUp afi peer s =
     pick (ltb Number.limit (length s)) (refusedAnswer (refusal Number.TooLong 0))
     (pick (ltb (length s) sentAt) (refusedAnswer (cutIn widths 0 (length s)))
     (withSent afi peer s (openAt s sentAt)))
+
+-- the reader with its arguments fixed, and the grammar that it is held against
+abbrev pub reader : Afi → BmpPeerType → Reader
+reader afi peer =
+    record { grammar = grammar afi; Answer = PeerUpAnswer; read = readPeerUp afi peer; numberOf = λ a. a .refusal .number; shown = shown afi peer }

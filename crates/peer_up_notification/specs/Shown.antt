@@ -7,11 +7,12 @@ use Rattle.wire.specs.View.{view}
 use Rattle.wire.specs.Parts.{shownFrom, endFrom}
 use Rattle.wire.specs.Tlv.{Tlv, sizeOf}
 use Rattle.wire.specs.declared.Refusal.{Refusal}
+use Rattle.wire.specs.Exactly.{Grammar}
 use Rattle.models.specs.Address.{unspecified}
 use Rattle.models.specs.declared.Afi.{Afi}
 use Rattle.models.specs.declared.IpAddr.{IpAddr}
 use Rattle.peer.specs.declared.BmpPeerType.{BmpPeerType}
-use Rattle.peer_up_notification.specs.Grammar.{skippedFor, Reading}
+use Rattle.peer_up_notification.specs.Grammar.{skippedFor, Reading, join, Good}
 use Rattle.peer_up_notification.specs.Warnings.{warnings}
 use Rattle.peer_up_notification.specs.declared.PeerUpTlvType.{PeerUpTlvType}
 use Rattle.peer_up_notification.specs.declared.PeerUpTlvType.the-variants.{String, SysDescr, SysName, VrTableName, AdminLabel, Unknown}
@@ -114,3 +115,7 @@ shown afi peer r =
     goodAnswer (endFrom sizeOf (tlvsAt r) (r .tlvs)) (warnings peer r)
     (messageOf (shownFront afi r) (length (r .tlvs))
     (shownFrom sizeOf entry (tlvsAt r) (r .tlvs) ++ replicate (places - length (r .tlvs)) zeroTlv))
+
+-- the grammar for a family of the address, with what fits the table
+abbrev pub grammar : Afi → Grammar
+grammar afi = record { Reading = Reading; join = join; Good = Good afi; Fits = Fits }

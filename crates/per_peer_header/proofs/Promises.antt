@@ -12,6 +12,7 @@ use Rattle.wire.specs.Read.{refusal, noRefusal, cutAt}
 use Rattle.wire.proofs.Bytes.{num-lt, bytes-take, bytes-drop, number-is}
 use Rattle.wire.proofs.Views.{length-part}
 use Rattle.wire.proofs.Determined.{determined}
+use Rattle.wire.specs.Exactly.{Sound, Complete, Unique}
 use Rattle.writing.specs.Write.{lengthOf, writeAnswer, written}
 use Rattle.writing.specs.declared.WriteAnswer.{WriteAnswer}
 use Rattle.writing.specs.declared.WriteAnswer.the-variants.{Written}
@@ -22,48 +23,46 @@ use Rattle.peer.specs.declared.BmpPerPeerHeader.{BmpPerPeerHeader}
 use Rattle.per_peer_header.specs.Grammar.{widths, Reading, addressBytes, join, Octets, Good}
 use Rattle.models.specs.Warnings.{countOnes}
 use Rattle.per_peer_header.specs.Warnings.{strayAddress, noRouterId, warnings}
-use Rattle.per_peer_header.specs.Shown.{shown, refused}
-use Rattle.per_peer_header.specs.Read.{partsOf, readPerPeerHeader}
+use Rattle.per_peer_header.specs.Shown.{shown, refused, grammar}
+use Rattle.per_peer_header.specs.Read.{partsOf, readPerPeerHeader, reader}
 use Rattle.per_peer_header.specs.Write.{readingOf, bytesOf, writable, Typed}
 use Rattle.per_peer_header.specs.declared.PerPeerHeaderAnswer.{PerPeerHeaderAnswer}
 use Rattle.per_peer_header.proofs.Fields.{address-fits, as-fits, fields-layout, layout-known}
 use Rattle.per_peer_header.proofs.Laws.{length-join, parts-join, join-parts, Accepted, accepted, shows-parts}
 use Rattle.per_peer_header.proofs.Written.{good-reading, shown-again, again-writable}
 
--- the answer to s shows r, and r is a good reading of s
-pub record Shows (s : List ℕ) (r : Reading) : Type 0 where
-  pub is-good : Good r
-  pub joined : join r ≡ s
-  pub shown-so : readPerPeerHeader s ≡ shown r
-
 -- What the reader accepts has a good reading, which it shows.
-pub sound : (s : List ℕ) → Bytes s → readPerPeerHeader s .refusal .number ≡ Number.Good → (r : Reading) × Shows s r
+pub sound : Sound reader
 sound s p e =
     let a = accepted s e in
     let sixteen : Octets 16 (take 16 (drop 10 s)) =
     record { many = length-part s 10 16 (omega (arith, a .long)); are-bytes = bytes-take 16 (bytes-drop 10 p) } in (
       partsOf s,
       record {
-        is-good =
+        reading =
             record {
-              flags-fit = num-lt 1 1 p;
-              distinguisher-fits = num-lt 8 2 p;
-              layout = fields-layout (numAt 1 s 0) (numAt 1 s 1) (take 16 (drop 10 s)) (numAt 4 s 26) (a .known);
-              address-fits = address-fits (numAt 1 s 0) (numAt 1 s 1) sixteen;
-              asn-fits = as-fits (numAt 1 s 0) (numAt 1 s 1) (numAt 4 s 26) (num-lt 4 26 p);
-              id-fits = num-lt 4 30 p;
-              seconds-fit = num-lt 4 34 p;
-              microseconds-fit = num-lt 4 38 p;
-              tail-bytes = bytes-drop 42 p;
+              is-good =
+                  record {
+                    flags-fit = num-lt 1 1 p;
+                    distinguisher-fits = num-lt 8 2 p;
+                    layout = fields-layout (numAt 1 s 0) (numAt 1 s 1) (take 16 (drop 10 s)) (numAt 4 s 26) (a .known);
+                    address-fits = address-fits (numAt 1 s 0) (numAt 1 s 1) sixteen;
+                    asn-fits = as-fits (numAt 1 s 0) (numAt 1 s 1) (numAt 4 s 26) (num-lt 4 26 p);
+                    id-fits = num-lt 4 30 p;
+                    seconds-fit = num-lt 4 34 p;
+                    microseconds-fit = num-lt 4 38 p;
+                    tail-bytes = bytes-drop 42 p;
+                  };
+              fits = tt;
+              joined = join-parts p (a .long);
             };
-        joined = join-parts p (a .long);
         shown-so = shows-parts s a;
       },
     )
 
 -- Every good reading is accepted, and shown.
-pub complete : (r : Reading) → Good r → length (join r) ≤ Number.limit → readPerPeerHeader (join r) ≡ shown r
-complete r g short =
+pub complete : Complete reader
+complete r g f short =
     let e = parts-join r g in
     let a : Accepted (join r) =
     record {
@@ -74,7 +73,7 @@ complete r g short =
     shows-parts (join r) a ∙ ap shown e
 
 -- No input has two readings.
-pub unique : (r q : Reading) → Good r → Good q → join r ≡ join q → r ≡ q
+pub unique : Unique grammar
 unique r q g h e = sym (parts-join r g) ∙ ap partsOf e ∙ parts-join q h
 
 -- ---- what is accepted and what is refused, for every input that is not too long
@@ -119,7 +118,7 @@ pub record ReadsBack (h : BmpPerPeerHeader) (s : List ℕ) : Type 0 where
 
 -- its own bytes are read as the header that its reading shows
 reads : (h : BmpPerPeerHeader) → Typed h → readPerPeerHeader (bytesOf h) ≡ shown (readingOf h)
-reads h t = let g = good-reading h t in complete (readingOf h) g (omega (arith, length-join (readingOf h) g))
+reads h t = let g = good-reading h t in complete (readingOf h) g tt (omega (arith, length-join (readingOf h) g))
 
 -- What the writer has written, where the header is writable and there is room, is read back as that header.
 pub round-trip : (h : BmpPerPeerHeader) → Typed h → (out out′ : List ℕ) (a : WriteAnswer)

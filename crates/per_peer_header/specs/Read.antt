@@ -6,10 +6,11 @@ use lib.ListN.{length, take, drop}
 use Rattle.wire.specs.Number as Number
 use Rattle.wire.specs.Bytes.{pick, numAt, numberAt}
 use Rattle.wire.specs.Read.{refusal}
+use Rattle.wire.specs.Exactly.{Reader}
 use Rattle.layout.specs.Layout.{cutIn}
 use Rattle.peer.specs.Peer.{isLocRib, flagV, flagA}
 use Rattle.per_peer_header.specs.Grammar.{widths, AddressField, ipv4, ipv6, unused, AsField, as16, as32, Reading}
-use Rattle.per_peer_header.specs.Shown.{shown, refused}
+use Rattle.per_peer_header.specs.Shown.{shown, refused, grammar}
 use Rattle.per_peer_header.specs.declared.PerPeerHeaderAnswer.{PerPeerHeaderAnswer}
 
 -- the sixteen bytes of an address, and the number of an AS's four, taken apart by type and flags
@@ -43,3 +44,7 @@ readPerPeerHeader s =
     (pick (ltb 3 (numberAt 1 s 0)) (refused (refusal Number.UnknownKind 0))
     (pick (ltb (length s) 42) (refused (cutIn widths 0 (length s)))
     (shown (partsOf s))))
+
+-- the reader, and the grammar that it is held against
+abbrev pub reader : Reader
+reader = record { grammar = grammar; Answer = PerPeerHeaderAnswer; read = readPerPeerHeader; numberOf = λ a. a .refusal .number; shown = shown }

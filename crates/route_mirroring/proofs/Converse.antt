@@ -14,6 +14,8 @@ use Rattle.wire.proofs.Bytes.{bytes-be, bytes-append}
 use Rattle.wire.proofs.Views.{length-part, viewed-inside, bytes-viewed}
 use Rattle.wire.proofs.Tlv.{put-tlv-long}
 use Rattle.wire.proofs.Walk.{no-tail}
+use Rattle.wire.specs.Exactly.{Shows}
+use Rattle.route_mirroring.specs.Read.{reader}
 use Rattle.writing.specs.Table.{parts, joined, allOk}
 use Rattle.writing.proofs.Table.{kept-each}
 use Rattle.writing.proofs.Trip.{parts-back}
@@ -26,7 +28,7 @@ use Rattle.route_mirroring.specs.declared.RouteMirroringTlv.{RouteMirror
 use Rattle.route_mirroring.specs.declared.RouteMirroring.{RouteMirroring}
 use Rattle.route_mirroring.specs.declared.RouteMirroringAnswer.{RouteMirroringAnswer}
 use Rattle.route_mirroring.proofs.Written.{Fine, fine-from}
-use Rattle.route_mirroring.proofs.Shows.{Shows, ViewAt}
+use Rattle.route_mirroring.proofs.Shows.{ViewAt}
 use Rattle.route_mirroring.proofs.Trip.{ReadsBack}
 
 -- ---- what the reader does not ask of a value, and the writer does: the view lies inside, the information has length 2
@@ -95,21 +97,21 @@ put-long (information size code) r = omega arith
 
 pub writable-from : (m : RouteMirroring) (b : List ℕ) → length (m .tlvs) ≡ places
     → ((i : ℕ) → i < m .count → Inside b (getD (m .tlvs) i zeroTlv)) → ((i : ℕ) → i < m .count → TwoBytes (getD (m .tlvs) i zeroTlv))
-    → (q : Reading) → Shows (bytesOf m b) q → AllAt sizeOf (ViewAt (join q)) 0 (q .tlvs)
+    → (q : Reading) → Shows reader (bytesOf m b) q → AllAt sizeOf (ViewAt (join q)) 0 (q .tlvs)
     → ReadsBack m b (bytesOf m b) → writable m (length b) ≡ true
 writable-from m b long inside two q x view-so r =
     let s = bytesOf m b in
     let same = subst (λ (a : RouteMirroringAnswer). Same m b (a .message) s) (x .shown-so) (r .same) in
     let n : m .count ≡ length (q .tlvs) = same .count-same in
-    let few : m .count ≤ places = omega (arith, n, x .fits) in
+    let few : m .count ≤ places = omega (arith, n, x .reading .fits) in
     let k : length (kept m) ≡ m .count = length-take-le (m .count) (m .tlvs) (omega (arith, long, few)) in
-    let v : AllAt sizeOf (ViewAt s) 0 (q .tlvs) = subst (λ (z : List ℕ). AllAt sizeOf (ViewAt z) 0 (q .tlvs)) (x .joined) view-so in
+    let v : AllAt sizeOf (ViewAt s) 0 (q .tlvs) = subst (λ (z : List ℕ). AllAt sizeOf (ViewAt z) 0 (q .tlvs)) (x .reading .joined) view-so in
     let each : q .tlvs ≡ parts writer b (kept m) =
     parts-back writer sizeOf entry (ViewAt s) b (λ t u. SameTlv t b u s) zeroTlv (λ at x t. one-part b s at x (t .«info_len») (t .value))
     (replicate (places - length (q .tlvs)) zeroTlv) (kept m) (q .tlvs) 0 (k ∙ n) v
     (kept-each (λ i t. SameTlv t b (getD (shown q .message .tlvs) i zeroTlv) s) (m .tlvs) (m .count) zeroTlv (same .tlv-same)) in
-    let z : q .tail ≡ [] = no-tail put longOf put-long (parts writer b (kept m)) (q .tail) (ap (λ (l : List Tlv). joinAll put l (q .tail)) (sym each) ∙ x .joined) in
+    let z : q .tail ≡ [] = no-tail put longOf put-long (parts writer b (kept m)) (q .tail) (ap (λ (l : List Tlv). joinAll put l (q .tail)) (sym each) ∙ x .reading .joined) in
     let good : EachGood put ReadTlv (parts writer b (kept m)) [] =
-    subst (λ (l : List Tlv). EachGood put ReadTlv l []) each (subst (EachGood put ReadTlv (q .tlvs)) z (x .is-good .each)) in
+    subst (λ (l : List Tlv). EachGood put ReadTlv l []) each (subst (EachGood put ReadTlv (q .tlvs)) z (x .reading .is-good .each)) in
     rw (le-ltb places (m .count) few) (all-fine b (kept m) good
     (kept-each (λ i t. Inside b t) (m .tlvs) (m .count) zeroTlv inside) (kept-each (λ i t. TwoBytes t) (m .tlvs) (m .count) zeroTlv two))

@@ -9,26 +9,18 @@ use Rattle.wire.specs.Number as Number
 use Rattle.wire.specs.View.{viewed}
 use Rattle.wire.proofs.Tlv.{tlv-viewed}
 use Rattle.wire.proofs.Walk as Walk
-use Rattle.route_mirroring.specs.Grammar.{Tlv, bgpMessage, information, put, ReadTlv, Reading, join, Good}
-use Rattle.route_mirroring.specs.Shown.{infoOf, codeOf, entry, Fits, shown}
-use Rattle.route_mirroring.specs.Read.{kit, answer, readMirroring}
+use Rattle.wire.specs.Exactly.{Shows}
+use Rattle.route_mirroring.specs.Grammar.{Tlv, bgpMessage, information, put, ReadTlv}
+use Rattle.route_mirroring.specs.Shown.{infoOf, codeOf, entry}
+use Rattle.route_mirroring.specs.Read.{kit, answer, reader}
 use Rattle.route_mirroring.specs.declared.RouteMirroringValue.{RouteMirroringValue}
 use Rattle.route_mirroring.specs.declared.RouteMirroringValue.the-variants.{BgpMessage, Information}
 use Rattle.route_mirroring.proofs.Laws.{laws, tails}
 
--- the answer to s shows r, and r is a good reading of s that fits the table
-pub record Shows (s : List ℕ) (r : Reading) : Type 0 where
-  pub is-good : Good r
-  pub fits : Fits r
-  pub joined : join r ≡ s
-  pub shown-so : readMirroring s ≡ shown r
-
-pub shows-of : (s : List ℕ) → length s ≤ Number.limit → (l : List Tlv) (z : List ℕ) → Walk.Accepts kit laws tails 0 s l z → Shows s (record { tlvs = l; tail = z })
+pub shows-of : (s : List ℕ) → length s ≤ Number.limit → (l : List Tlv) (z : List ℕ) → Walk.Accepts kit laws tails 0 s l z → Shows reader s (record { tlvs = l; tail = z })
 shows-of s h l z a =
     record {
-      is-good = record { each = a .each; tail-good = a .tail-good };
-      fits = a .few;
-      joined = a .joined;
+      reading = record { is-good = record { each = a .each; tail-good = a .tail-good }; fits = a .few; joined = a .joined };
       shown-so = rw (le-ltb Number.limit (length s) h) (ap answer (a .shown-so));
     }
 

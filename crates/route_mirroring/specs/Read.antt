@@ -9,8 +9,9 @@ use Rattle.wire.specs.Read.{refusal, cutAt, cursor}
 use Rattle.wire.specs.TlvAt.{tlvOf}
 use Rattle.wire.specs.Walk as Walk
 use Rattle.wire.specs.Walk.{stop, bad, item, from, Kit, Out, good, refused, readFrom}
+use Rattle.wire.specs.Exactly.{Reader}
 use Rattle.route_mirroring.specs.Grammar.{Tlv, bgpMessage, information}
-use Rattle.route_mirroring.specs.Shown.{places, sizeOf, entry, zeroTlv, goodAnswer, refusedAnswer}
+use Rattle.route_mirroring.specs.Shown.{places, sizeOf, entry, zeroTlv, goodAnswer, refusedAnswer, grammar, shown}
 use Rattle.route_mirroring.specs.declared.RouteMirroringTlv.{RouteMirroringTlv}
 use Rattle.route_mirroring.specs.declared.RouteMirroringAnswer.{RouteMirroringAnswer}
 use Rattle.route_mirroring.specs.declared.Step.{Step}
@@ -61,3 +62,7 @@ answer (refused r) = refusedAnswer r
 abbrev pub readMirroring : List ℕ → RouteMirroringAnswer
 readMirroring s =
     pick (ltb Number.limit (length s)) (refusedAnswer (refusal Number.TooLong 0)) (answer (readFrom kit (length s) 0 s))
+
+-- the reader, and the grammar that it is held against
+abbrev pub reader : Reader
+reader = record { grammar = grammar; Answer = RouteMirroringAnswer; read = readMirroring; numberOf = λ a. a .refusal .number; shown = shown }

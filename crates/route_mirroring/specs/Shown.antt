@@ -6,7 +6,8 @@ use Rattle.wire.specs.Read.{noRefusal}
 use Rattle.wire.specs.View.{view}
 use Rattle.wire.specs.Parts.{shownFrom, endFrom}
 use Rattle.wire.specs.declared.Refusal.{Refusal}
-use Rattle.route_mirroring.specs.Grammar.{Tlv, bgpMessage, information, Reading}
+use Rattle.wire.specs.Exactly.{Grammar}
+use Rattle.route_mirroring.specs.Grammar.{Tlv, bgpMessage, information, Reading, join, Good}
 use Rattle.route_mirroring.specs.declared.RouteMirroringInfo.{RouteMirroringInfo}
 use Rattle.route_mirroring.specs.declared.RouteMirroringInfo.the-variants.{ErroredPdu, MessageLost}
 use Rattle.route_mirroring.specs.declared.RouteMirroringValue.the-variants.{BgpMessage, Information}
@@ -59,3 +60,7 @@ abbrev pub shown : Reading → RouteMirroringAnswer
 shown r =
     goodAnswer (length (r .tlvs)) (endFrom sizeOf 0 (r .tlvs))
     (shownFrom sizeOf entry 0 (r .tlvs) ++ replicate (places - length (r .tlvs)) zeroTlv)
+
+-- the grammar, with what fits the table
+abbrev pub grammar : Grammar
+grammar = record { Reading = Reading; join = join; Good = Good; Fits = Fits }

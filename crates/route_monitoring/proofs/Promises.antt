@@ -11,6 +11,7 @@ use Rattle.wire.specs.Bytes.{Bytes}
 use Rattle.wire.specs.View.{view, viewed}
 use Rattle.wire.proofs.Views.{viewed-inside, length-part, bytes-viewed}
 use Rattle.wire.proofs.Determined.{determined}
+use Rattle.wire.specs.Exactly.{Sound, Complete, Unique}
 use Rattle.writing.specs.Write.{lengthOf, writeAnswer, written}
 use Rattle.writing.specs.declared.WriteAnswer.{WriteAnswer}
 use Rattle.writing.specs.declared.WriteAnswer.the-variants.{Written}
@@ -18,8 +19,8 @@ use Rattle.writing.proofs.Answers.{front}
 use Rattle.models.specs.declared.AsnLength.{AsnLength}
 use Rattle.peer.specs.declared.BmpPeerType.{BmpPeerType}
 use Rattle.route_monitoring.specs.Grammar.{Reading, join, Good}
-use Rattle.route_monitoring.specs.Shown.{goodOf, shown, refusalOf, stopOf, messageOf}
-use Rattle.route_monitoring.specs.Read.{partsOf, readRouteMonitoring}
+use Rattle.route_monitoring.specs.Shown.{goodOf, shown, refusalOf, stopOf, messageOf, grammar}
+use Rattle.route_monitoring.specs.Read.{partsOf, readRouteMonitoring, reader}
 use Rattle.route_monitoring.specs.Write.{bytesOf, writable, Same}
 use Rattle.route_monitoring.specs.declared.RouteMonitoring.{RouteMonitoring}
 use Rattle.route_monitoring.specs.declared.RouteMonitoringAnswer.{RouteMonitoringAnswer}
@@ -31,27 +32,26 @@ viewed-all s = viewed-inside s (view 0 (length s)) (omega arith) ∙ take-length
 
 -- ---- the reader, whatever AS length and peer type it is given
 module _ (width : AsnLength) (t : BmpPeerType) where
-  -- the answer to s shows r, and r is a good reading of s
-  pub record Shows (s : List ℕ) (r : Reading) : Type 0 where
-    pub is-good : Good r
-    pub joined : join r ≡ s
-    pub shown-so : readRouteMonitoring width t s ≡ shown width t r
-
   -- What the reader accepts has a good reading, which it shows.
-  pub sound : (s : List ℕ) → Bytes s → refusalOf (readRouteMonitoring width t s) .number ≡ Number.Good → (r : Reading) × Shows s r
+  pub sound : Sound (reader width t)
   sound s p e =
       let a = accepted s width t e in
-      let n : length s ≡ 19 + length (partsOf s .rest) = omega (arith, length-drop 19 s, a .long) in
-      (partsOf s, record { is-good = parts-good p (a .long); joined = join-parts p (a .long); shown-so = shows-all s width t a ∙ ap (goodOf width t) n })
+      let n : length s ≡ 19 + length (partsOf s .rest) = omega (arith, length-drop 19 s, a .long) in (
+        partsOf s,
+        record {
+          reading = record { is-good = parts-good p (a .long); fits = tt; joined = join-parts p (a .long) };
+          shown-so = shows-all s width t a ∙ ap (goodOf width t) n;
+        },
+      )
 
   -- Every good reading is accepted, and shown.
-  pub complete : (r : Reading) → Good r → length (join r) ≤ Number.limit → readRouteMonitoring width t (join r) ≡ shown width t r
-  complete r g short =
+  pub complete : Complete (reader width t)
+  complete r g f short =
       let n = length-join r g in
       shows-all (join r) width t (record { short = short; long = omega arith }) ∙ ap (goodOf width t) n
 
 -- No input has two readings.
-pub unique : (r q : Reading) → Good r → Good q → join r ≡ join q → r ≡ q
+pub unique : Unique grammar
 unique r q g h e = sym (parts-join r g) ∙ ap partsOf e ∙ parts-join q h
 
 -- The view in the answer that shows a reading shows all of that reading.

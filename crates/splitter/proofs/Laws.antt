@@ -17,7 +17,7 @@ use Rattle.common_header.specs.declared.BmpCommonHeader.{BmpCommonHeader}
 use Rattle.common_header.specs.declared.CommonHeaderAnswer.{CommonHeaderAnswer}
 use Rattle.splitter.specs.Grammar.{Reading, headerOf}
 use Rattle.splitter.specs.Shown.{refusalOf}
-use Rattle.splitter.specs.Split.{judged, afterHeader}
+use Rattle.splitter.specs.Read.{judged, afterHeader}
 use Rattle.splitter.specs.declared.SplitAnswer.{SplitAnswer}
 
 -- a length that is accepted in an input of this length

@@ -10,6 +10,7 @@ use Rattle.wire.specs.Bytes.{Bytes}
 use Rattle.wire.specs.View.{view, viewed}
 use Rattle.wire.proofs.Views.{viewed-inside}
 use Rattle.wire.proofs.Determined.{determined}
+use Rattle.wire.specs.Exactly.{Sound, Complete, Unique}
 use Rattle.common_header.specs.Grammar as Header
 use Rattle.common_header.specs.Shown as HeaderShown
 use Rattle.common_header.specs.Read.{readCommonHeader}
@@ -17,42 +18,41 @@ use Rattle.common_header.specs.declared.CommonHeaderAnswer.{CommonHeaderAnswer}
 use Rattle.common_header.proofs.Laws.{length-join}
 use Rattle.common_header.proofs.Promises as HeaderPromises
 use Rattle.splitter.specs.Grammar.{Reading, headerOf, join, Good}
-use Rattle.splitter.specs.Shown.{shown, refusalOf, messageOf, commonHeaderOf}
-use Rattle.splitter.specs.Split.{afterHeader, splitOf}
+use Rattle.splitter.specs.Shown.{shown, refusalOf, messageOf, commonHeaderOf, grammar}
+use Rattle.splitter.specs.Read.{afterHeader, splitOf, reader}
 use Rattle.splitter.specs.declared.SplitAnswer.{SplitAnswer}
 use Rattle.splitter.proofs.Laws.{Fitting, fitting-shown, judged-good, header-accepted, after-at-most, cut-at, header-cut, cut-header}
 
--- the answer to s shows r, and r is a good reading of s
-pub record Shows (s : List ℕ) (r : Reading) : Type 0 where
-  pub is-good : Good r
-  pub joined : join r ≡ s
-  pub shown-so : splitOf s ≡ shown r
-
 -- What the splitter accepts is a whole message and the rest of the stream, and it shows that message.
-pub sound : (s : List ℕ) → Bytes s → refusalOf (splitOf s) .number ≡ Number.Good → (r : Reading) × Shows s r
+pub sound : Sound reader
 sound s p e =
     let x = HeaderPromises.sound s p (header-accepted (length s) (readCommonHeader s) e) in
     let h = x .0 in
     let f : Fitting (length s) (h .length) =
     judged-good (length s) (HeaderShown.headerOf (HeaderShown.shown h))
     (subst (λ (a : CommonHeaderAnswer). refusalOf (afterHeader (length s) a) .number ≡ Number.Good) (x .1 .shown-so) e) in
-    let n : length s ≡ 6 + length (h .tail) = ap length (sym (x .1 .joined)) ∙ length-join h in
+    let n : length s ≡ 6 + length (h .tail) = ap length (sym (x .1 .reading .joined)) ∙ length-join h in
     let long : length (take (h .length - 6) (h .tail)) ≡ h .length - 6 = length-take-le (h .length - 6) (h .tail) (omega (arith, f .all-there, n)) in (
       cut-at h,
       record {
-        is-good = record {
-          header-good = subst Header.Good (sym (header-cut h)) (x .1 .is-good);
-          length-is = omega (arith, long, f .least);
-          short-enough = f .most;
-        };
-        joined = ap Header.join (header-cut h) ∙ x .1 .joined;
+        reading =
+            record {
+              is-good =
+                  record {
+                    header-good = subst Header.Good (sym (header-cut h)) (x .1 .reading .is-good);
+                    length-is = omega (arith, long, f .least);
+                    short-enough = f .most;
+                  };
+              fits = tt;
+              joined = ap Header.join (header-cut h) ∙ x .1 .reading .joined;
+            };
         shown-so = ap (afterHeader (length s)) (x .1 .shown-so) ∙ fitting-shown (length s) (HeaderShown.headerOf (HeaderShown.shown h)) f;
       },
     )
 
 -- Every good reading is accepted, and shown.
-pub complete : (r : Reading) → Good r → length (join r) ≤ Number.limit → splitOf (join r) ≡ shown r
-complete r g short =
+pub complete : Complete reader
+complete r g _ short =
     let n = length-join (headerOf r) in
     let f : Fitting (length (join r)) (r .length) =
     record {
@@ -60,11 +60,11 @@ complete r g short =
       most = g .short-enough;
       all-there = omega (arith, n, g .length-is, length-append (r .body) (r .rest));
     } in
-    ap (afterHeader (length (join r))) (HeaderPromises.complete (headerOf r) (g .header-good) short)
+    ap (afterHeader (length (join r))) (HeaderPromises.complete (headerOf r) (g .header-good) tt short)
     ∙ fitting-shown (length (join r)) (HeaderShown.headerOf (HeaderShown.shown (headerOf r))) f
 
 -- No stream has two first messages.
-pub unique : (r q : Reading) → Good r → Good q → join r ≡ join q → r ≡ q
+pub unique : Unique grammar
 unique r q g h e =
     sym (cut-header r (g .length-is)) ∙ ap cut-at (HeaderPromises.unique (headerOf r) (headerOf q) (g .header-good) (h .header-good) e)
     ∙ cut-header q (h .length-is)
@@ -79,8 +79,8 @@ pub first-bytes : (s : List ℕ) → Bytes s → refusalOf (splitOf s) .number �
 first-bytes s p e =
     let x = sound s p e in
     let r = x .0 in
-    let g = x .1 .is-good in
-    let n : length s ≡ 6 + length (r .body ++ r .rest) = ap length (sym (x .1 .joined)) ∙ length-join (headerOf r) in
+    let g = x .1 .reading .is-good in
+    let n : length s ≡ 6 + length (r .body ++ r .rest) = ap length (sym (x .1 .reading .joined)) ∙ length-join (headerOf r) in
     let there : r .length ≤ length s = omega (arith, n, g .length-is, length-append (r .body) (r .rest)) in
     let v : viewed s (view 0 (r .length)) ≡ take (r .length) s = viewed-inside s (view 0 (r .length)) (omega (arith, there)) in
     rw (x .1 .shown-so) (v, ap length v ∙ length-take-le (r .length) s there)

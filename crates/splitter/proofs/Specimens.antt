@@ -7,7 +7,7 @@ use Rattle.wire.specs.Number as Number
 use Rattle.common_header.specs.Shown.{typeOf, kindOf}
 use Rattle.common_header.specs.Read.{readFields}
 use Rattle.splitter.specs.Shown.{refusalOf, stopOf, commonHeaderOf}
-use Rattle.splitter.specs.Split.{splitOf}
+use Rattle.splitter.specs.Read.{splitOf}
 
 -- number, place, stop and type
 pub record Told : Type 0 where

@@ -6,7 +6,7 @@ use wire::View;
 ghost use mathlib.Core.Path.{_≡_};
 ghost use Rattle.wire.specs.Read.{refusal};
 ghost use Rattle.splitter.specs.declared.SplitAnswer.{SplitAnswer};
-ghost use Rattle.splitter.specs.Split.{judged, splitOf};
+ghost use Rattle.splitter.specs.Read.{judged, splitOf};
 
 // The header of the first message and the view of that whole message, or why there is none.
 pub enum SplitAnswer {

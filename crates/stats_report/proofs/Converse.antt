@@ -12,6 +12,8 @@ use Rattle.wire.specs.Parts.{joinAll, EachGood, AllAt}
 use Rattle.wire.proofs.Bytes.{bytes-be, bytes-append}
 use Rattle.wire.proofs.Tlv.{put-tlv-long}
 use Rattle.wire.proofs.Walk.{no-tail}
+use Rattle.wire.specs.Exactly.{Shows}
+use Rattle.stats_report.specs.Read.{reader}
 use Rattle.writing.specs.Table.{parts, joined, allOk}
 use Rattle.writing.proofs.Table.{kept-below, kept-at}
 use Rattle.writing.proofs.Trip.{parts-back}
@@ -26,7 +28,7 @@ use Rattle.stats_report.specs.Write.{partOf, writer, kept, bytesOf, writ
 use Rattle.stats_report.specs.declared.StatCounter.{StatCounter}
 use Rattle.stats_report.specs.declared.StatsReport.{StatsReport}
 use Rattle.stats_report.specs.declared.StatsAnswer.{StatsAnswer}
-use Rattle.stats_report.proofs.Shows.{Shows, ViewAt}
+use Rattle.stats_report.proofs.Shows.{ViewAt}
 use Rattle.stats_report.proofs.Trip.{ReadsBack}
 
 abbrev pub Inside : List ℕ → StatCounter → Type 0
@@ -70,23 +72,23 @@ behind n k x y e = ap (drop 4) e
 
 pub writable-from : (m : StatsReport) (b : List ℕ) → length (m .counters) ≡ places
     → ((i : ℕ) → i < m .count → Inside b (getD (m .counters) i zeroCounter))
-    → (q : Reading) → Shows (bytesOf m b) q → AllAt sizeOf (ViewAt (join q)) 4 (q .stats)
+    → (q : Reading) → Shows reader (bytesOf m b) q → AllAt sizeOf (ViewAt (join q)) 4 (q .stats)
     → ReadsBack m b (bytesOf m b) → writable m (length b) ≡ true
 writable-from m b long inside q x view-so r =
     let s = bytesOf m b in
     let same = subst (λ (a : StatsAnswer). Same m b (a .report) s) (x .shown-so) (r .same) in
     let n : m .count ≡ length (q .stats) = same .count-same in
-    let few : m .count ≤ places = omega (arith, n, x .fits) in
-    let count-is : m .«stats_count» ≡ m .count = same .stats-count-same ∙ x .is-good .count-is ∙ sym n in
+    let few : m .count ≤ places = omega (arith, n, x .reading .fits) in
+    let count-is : m .«stats_count» ≡ m .count = same .stats-count-same ∙ x .reading .is-good .count-is ∙ sym n in
     let k : length (kept m) ≡ m .count = length-take-le (m .count) (m .counters) (omega (arith, long, few)) in
-    let v : AllAt sizeOf (ViewAt s) 4 (q .stats) = subst (λ (z : List ℕ). AllAt sizeOf (ViewAt z) 4 (q .stats)) (x .joined) view-so in
+    let v : AllAt sizeOf (ViewAt s) 4 (q .stats) = subst (λ (z : List ℕ). AllAt sizeOf (ViewAt z) 4 (q .stats)) (x .reading .joined) view-so in
     let each : q .stats ≡ parts writer b (kept m) =
     parts-back writer sizeOf entry (ViewAt s) b (λ t u. SameCounter t b u s) zeroCounter (λ at x t. one-part b s at x t)
     (replicate (places - length (q .stats)) zeroCounter) (kept m) (q .stats) 4 (k ∙ n) v
     (λ i h. subst (λ (t : StatCounter). SameCounter t b (getD (shown q .report .counters) i zeroCounter) s) (sym (kept-at (m .counters) (m .count) i zeroCounter h)) (same .counter-same i (kept-below (m .counters) (m .count) i h))) in
     let z : q .tail ≡ [] =
     no-tail putStat (λ t. 4 + length (valueBytes (t .value))) (λ t. put-tlv-long (asTlv t)) (parts writer b (kept m)) (q .tail)
-    (ap (λ (l : List Stat). joinAll putStat l (q .tail)) (sym each) ∙ behind (q .count) (m .«stats_count») _ _ (x .joined)) in
+    (ap (λ (l : List Stat). joinAll putStat l (q .tail)) (sym each) ∙ behind (q .count) (m .«stats_count») _ _ (x .reading .joined)) in
     let good : EachGood putStat GoodStat (parts writer b (kept m)) [] =
-    subst (λ (l : List Stat). EachGood putStat GoodStat l []) each (subst (EachGood putStat GoodStat (q .stats)) z (x .is-good .each)) in
+    subst (λ (l : List Stat). EachGood putStat GoodStat l []) each (subst (EachGood putStat GoodStat (q .stats)) z (x .reading .is-good .each)) in
     rw (le-ltb places (m .count) few, eq-eqb (m .«stats_count») (m .count) count-is) (all-fine b (kept m) good (inside-kept m b inside))

@@ -14,28 +14,29 @@ use Rattle.wire.specs.Walk.{Out, good, refused, readFrom}
 use Rattle.wire.proofs.Bytes.{num-lt, num-back}
 use Rattle.wire.proofs.Determined.{determined}
 use Rattle.wire.proofs.Walk.{read-fault, counted-sound, counted-complete, counted-unique, each-at}
+use Rattle.wire.specs.Exactly.{Shows, Sound, Complete, Unique}
 use Rattle.writing.specs.Write.{lengthOf, writeAnswer, written}
 use Rattle.writing.specs.declared.WriteAnswer.{WriteAnswer}
 use Rattle.writing.specs.declared.WriteAnswer.the-variants.{Written}
 use Rattle.writing.proofs.Answers.{front}
 use Rattle.stats_report.specs.Grammar.{Reading, join, Good}
-use Rattle.stats_report.specs.Shown.{zeroCounter, places, sizeOf, Fits, shown}
-use Rattle.stats_report.specs.Read.{kit, readStats}
+use Rattle.stats_report.specs.Shown.{zeroCounter, places, sizeOf, Fits, shown, grammar}
+use Rattle.stats_report.specs.Read.{kit, readStats, reader}
 use Rattle.stats_report.specs.Write.{readingOf, bytesOf, writable}
 use Rattle.stats_report.specs.declared.StatCounter.{StatCounter}
 use Rattle.stats_report.specs.declared.StatsReport.{StatsReport}
 use Rattle.stats_report.specs.declared.StatsAnswer.{StatsAnswer}
 use Rattle.stats_report.proofs.Laws.{faults, never, laws}
 use Rattle.stats_report.proofs.Written.{writes-of}
-use Rattle.stats_report.proofs.Shows.{Shows, shows-of, count-of, ViewAt, view-at}
+use Rattle.stats_report.proofs.Shows.{shows-of, count-of, ViewAt, view-at}
 use Rattle.stats_report.proofs.Trip.{parts-count, good-of, ReadsBack, reads-back}
 use Rattle.stats_report.proofs.Converse.{Inside, bytes-written, behind, writable-from}
 
 -- What the reader accepts has a good reading that fits, and it shows that reading.
-pub sound : (s : List ℕ) → Bytes s → readStats s .refusal .number ≡ Number.Good → (r : Reading) × Shows s r
+pub sound : Sound reader
 sound s p e = go (ltb Number.limit (length s)) refl (has 4 s 0) refl (readFrom kit (numAt 4 s 0) 4 s) refl
   where
-    go : (b : Bool) → ltb Number.limit (length s) ≡ b → (d : Bool) → has 4 s 0 ≡ d → (o : Out StatCounter) → readFrom kit (numAt 4 s 0) 4 s ≡ o → (r : Reading) × Shows s r
+    go : (b : Bool) → ltb Number.limit (length s) ≡ b → (d : Bool) → has 4 s 0 ≡ d → (o : Out StatCounter) → readFrom kit (numAt 4 s 0) 4 s ≡ o → (r : Reading) × Shows reader s r
     go true h d j o k = let q : _≡_ {A = ℕ} 1 0 = (rw h at e) in absurd (omega arith)
     go false h false j o k = let q : _≡_ {A = ℕ} 2 0 = (rw (h, j) at e) in absurd (omega arith)
     go false h true j (refused r) k =
@@ -48,22 +49,25 @@ sound s p e = go (ltb Number.limit (length s)) refl (has 4 s 0) refl (readFrom k
         let c = a .1 in (
           record { count = numAt 4 s 0; stats = a .0; tail = z },
           record {
-            is-good = record { count-fits = num-lt 4 0 p; count-is = sym (c .as-many); each = c .each; tail-bytes = c .tail-bytes };
-            fits = c .few;
-            joined = rw (c .joined) (num-back 4 0 p long);
+            reading =
+                record {
+                  is-good = record { count-fits = num-lt 4 0 p; count-is = sym (c .as-many); each = c .each; tail-bytes = c .tail-bytes };
+                  fits = c .few;
+                  joined = rw (c .joined) (num-back 4 0 p long);
+                };
             shown-so = shows-of s (ltb-false Number.limit (length s) h) (numAt 4 s 0) (a .0) z (record { left = long; number = refl; next = refl }) c;
           },
         )
 
 -- Every good reading that fits is accepted, and shown.
-pub complete : (r : Reading) → Good r → Fits r → length (join r) ≤ Number.limit → readStats (join r) ≡ shown r
+pub complete : Complete reader
 unfolding be
 complete r g f short =
     shows-of (join r) short (r .count) (r .stats) (r .tail) (count-of r g)
     (counted-complete kit laws (r .count) 4 (join r) (r .stats) (r .tail) (g .each) (sym (g .count-is)) (g .tail-bytes) refl f)
 
 -- No input has two readings, whatever the table holds.
-pub unique : (r q : Reading) → Good r → Good q → join r ≡ join q → r ≡ q
+pub unique : Unique grammar
 unique r q g h e =
     let n : r .count ≡ q .count = count-of r g .number ∙ ap (λ (s : List ℕ). numAt 4 s 0) e ∙ sym (count-of q h .number) in
     let u = counted-unique kit laws (r .stats) (q .stats) (r .tail) (q .tail) (g .each) (h .each) (sym (g .count-is) ∙ n ∙ h .count-is)
@@ -93,7 +97,7 @@ pub only-writable : (m : StatsReport) (b : List ℕ) → Bytes b → length (m .
     → ReadsBack m b (bytesOf m b) → writable m (length b) ≡ true
 only-writable m b p long inside r =
     let q = sound (bytesOf m b) (bytes-written m b p) (r .read-good) in
-    writable-from m b long inside (q .0) (q .1) (views (q .0) (q .1 .is-good)) r
+    writable-from m b long inside (q .0) (q .1) (views (q .0) (q .1 .reading .is-good)) r
 
 -- ---- any two answers, and any two outputs, that the contracts allow are equal
 pub parse-determined : (s : List ℕ) (a b : StatsAnswer) → a ≡ readStats s → b ≡ readStats s → a ≡ b

@@ -14,16 +14,9 @@ use Rattle.wire.proofs.Walk as Walk
 use Rattle.stats_data.specs.Write.{valueIn}
 use Rattle.stats_data.proofs.Values.{value-seen}
 use Rattle.stats_report.specs.Grammar.{Stat, asTlv, putStat, GoodStat, Reading, join, Good}
-use Rattle.stats_report.specs.Shown.{entry, Fits, shown}
+use Rattle.stats_report.specs.Shown.{entry, shown}
 use Rattle.stats_report.specs.Read.{kit, answer, readStats}
 use Rattle.stats_report.proofs.Laws.{laws, counted}
-
--- the answer to s shows r, and r is a good reading of s that fits the table
-pub record Shows (s : List ℕ) (r : Reading) : Type 0 where
-  pub is-good : Good r
-  pub fits : Fits r
-  pub joined : join r ≡ s
-  pub shown-so : readStats s ≡ shown r
 
 -- total records, and z behind them, after a count of total
 pub shows-of : (s : List ℕ) → length s ≤ Number.limit → (total : ℕ) (l : List Stat) (z : List ℕ) → Was 4 s 0 total (cursor 4) → Walk.Counts kit laws total 4 s l z

@@ -10,9 +10,10 @@ use Rattle.wire.specs.Tlv.{Tlv}
 use Rattle.wire.specs.TlvAt.{tlvOf}
 use Rattle.wire.specs.Walk as Walk
 use Rattle.wire.specs.Walk.{stop, bad, item, Kit, Out, good, refused, from, readFrom}
+use Rattle.wire.specs.Exactly.{Reader}
 use Rattle.stats_data.specs.Read.{valueOf}
 use Rattle.stats_report.specs.Grammar.{Stat}
-use Rattle.stats_report.specs.Shown.{places, sizeOf, entry, zeroCounter, goodAnswer, refusedAnswer}
+use Rattle.stats_report.specs.Shown.{places, sizeOf, entry, zeroCounter, goodAnswer, refusedAnswer, grammar, shown}
 use Rattle.stats_report.specs.declared.StatCounter.{StatCounter}
 use Rattle.stats_report.specs.declared.StatsAnswer.{StatsAnswer}
 use Rattle.stats_report.specs.declared.Step.{Step}
@@ -50,3 +51,7 @@ abbrev pub readStats : List ℕ → StatsAnswer
 readStats s =
     pick (ltb Number.limit (length s)) (refusedAnswer (refusal Number.TooLong 0))
     (pick (has 4 s 0) (answer (numAt 4 s 0) (readFrom kit (numAt 4 s 0) 4 s)) (refusedAnswer (cutAt 0)))
+
+-- the reader, and the grammar that it is held against
+abbrev pub reader : Reader
+reader = record { grammar = grammar; Answer = StatsAnswer; read = readStats; numberOf = λ a. a .refusal .number; shown = shown }

@@ -5,11 +5,12 @@ use lib.ListN.{length, replicate}
 use Rattle.wire.specs.Read.{noRefusal}
 use Rattle.wire.specs.Parts.{shownFrom, endFrom}
 use Rattle.wire.specs.declared.Refusal.{Refusal}
+use Rattle.wire.specs.Exactly.{Grammar}
 use Rattle.stats_type.specs.Shown.{typeOf}
 use Rattle.stats_type.specs.declared.StatType.the-variants.{PrefixesRejectedByInboundPolicy}
 use Rattle.stats_data.specs.Shown.{dataAt}
 use Rattle.stats_data.specs.declared.StatsData.the-variants.{Counter}
-use Rattle.stats_report.specs.Grammar.{Stat, Reading}
+use Rattle.stats_report.specs.Grammar.{Stat, Reading, join, Good}
 use Rattle.stats_report.specs.declared.StatCounter.{StatCounter}
 use Rattle.stats_report.specs.declared.StatsAnswer.{StatsAnswer}
 
@@ -47,3 +48,7 @@ abbrev pub shown : Reading → StatsAnswer
 shown r =
     goodAnswer (r .count) (length (r .stats)) (endFrom sizeOf 4 (r .stats))
     (shownFrom sizeOf entry 4 (r .stats) ++ replicate (places - length (r .stats)) zeroCounter)
+
+-- the grammar, with what fits the table
+abbrev pub grammar : Grammar
+grammar = record { Reading = Reading; join = join; Good = Good; Fits = Fits }

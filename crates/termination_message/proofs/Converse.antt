@@ -16,6 +16,8 @@ use Rattle.wire.proofs.Bytes.{bytes-be, bytes-append}
 use Rattle.wire.proofs.Views.{length-part, viewed-inside, bytes-viewed}
 use Rattle.wire.proofs.Walk.{no-tail}
 use Rattle.wire.proofs.Tlv.{put-tlv-long, coded-length}
+use Rattle.wire.specs.Exactly.{Shows}
+use Rattle.termination_message.specs.Read.{reader}
 use Rattle.writing.specs.Table.{parts, joined, allOk}
 use Rattle.writing.proofs.Table.{kept-each}
 use Rattle.writing.proofs.Trip.{table-back}
@@ -27,7 +29,7 @@ use Rattle.termination_message.specs.declared.TerminationTlv.{Terminatio
 use Rattle.termination_message.specs.declared.TerminationMessage.{TerminationMessage}
 use Rattle.termination_message.specs.declared.TerminationAnswer.{TerminationAnswer}
 use Rattle.termination_message.proofs.Written.{Fine, fine-from}
-use Rattle.termination_message.proofs.Shows.{Shows, ValueAt}
+use Rattle.termination_message.proofs.Shows.{ValueAt}
 use Rattle.termination_message.proofs.Trip.{ReadsBack}
 
 abbrev pub InsideValue : List ℕ → TerminationTlvValue → Type 0
@@ -98,20 +100,20 @@ put-long (reason size code) r = coded-length 1 size code r
 
 pub writable-from : (m : TerminationMessage) (b : List ℕ) → length (m .tlvs) ≡ places
     → ((i : ℕ) → i < m .count → Inside b (getD (m .tlvs) i zeroTlv)) → ((i : ℕ) → i < m .count → ReasonTwo (getD (m .tlvs) i zeroTlv))
-    → (q : Reading) → Shows (bytesOf m b) q → AllAt sizeOf (ValueAt (join q)) 0 (q .tlvs)
+    → (q : Reading) → Shows reader (bytesOf m b) q → AllAt sizeOf (ValueAt (join q)) 0 (q .tlvs)
     → ReadsBack m b (bytesOf m b) → writable m (length b) ≡ true
 writable-from m b long inside two q x values r =
     let s = bytesOf m b in
     let same = subst (λ (a : TerminationAnswer). Same m b (a .message) s) (x .shown-so) (r .same) in
-    let few : m .count ≤ places = omega (arith, same .count-same, x .fits) in
-    let v : AllAt sizeOf (ValueAt s) 0 (q .tlvs) = subst (λ (z : List ℕ). AllAt sizeOf (ValueAt z) 0 (q .tlvs)) (x .joined) values in
+    let few : m .count ≤ places = omega (arith, same .count-same, x .reading .fits) in
+    let v : AllAt sizeOf (ValueAt s) 0 (q .tlvs) = subst (λ (z : List ℕ). AllAt sizeOf (ValueAt z) 0 (q .tlvs)) (x .reading .joined) values in
     let each : q .tlvs ≡ parts writer b (kept m) =
     table-back writer sizeOf entry (ValueAt s) b (λ t u. SameTlv t b u s) zeroTlv
     (λ at y t w e. one-part b s at y (t .«info_len») (t .«info_value») w (e .len-same) (e .value-same))
     (replicate (places - length (q .tlvs)) zeroTlv) (m .tlvs) (m .count) (q .tlvs) (omega (arith, long, few)) (same .count-same) v (same .tlv-same) in
     let z : putTail (q .tail) ≡ [] =
-    no-tail put longOf put-long (parts writer b (kept m)) (putTail (q .tail)) (ap (λ (l : List Tlv). joinAll put l (putTail (q .tail))) (sym each) ∙ x .joined) in
+    no-tail put longOf put-long (parts writer b (kept m)) (putTail (q .tail)) (ap (λ (l : List Tlv). joinAll put l (putTail (q .tail))) (sym each) ∙ x .reading .joined) in
     let good : EachGood put ReadTlv (parts writer b (kept m)) [] =
-    subst (λ (l : List Tlv). EachGood put ReadTlv l []) each (subst (EachGood put ReadTlv (q .tlvs)) z (x .is-good .each)) in
+    subst (λ (l : List Tlv). EachGood put ReadTlv l []) each (subst (EachGood put ReadTlv (q .tlvs)) z (x .reading .is-good .each)) in
     rw (le-ltb places (m .count) few)
     (all-fine b (kept m) good (kept-each (λ i. Inside b) (m .tlvs) (m .count) zeroTlv inside) (kept-each (λ i. ReasonTwo) (m .tlvs) (m .count) zeroTlv two))

@@ -10,24 +10,16 @@ use Rattle.wire.specs.View.{view, viewed}
 use Rattle.wire.specs.Tlv.{Tail}
 use Rattle.wire.proofs.Tlv.{tlv-viewed, tail-join}
 use Rattle.wire.proofs.Walk as Walk
-use Rattle.termination_message.specs.Grammar.{Tlv, string, reason, put, ReadTlv, Reading, join, Good}
-use Rattle.termination_message.specs.Shown.{reasonOf, codeOf, Fits, shown}
-use Rattle.termination_message.specs.Read.{kit, answer, readTermination}
+use Rattle.wire.specs.Exactly.{Shows}
+use Rattle.termination_message.specs.Grammar.{Tlv, string, reason, put, ReadTlv}
+use Rattle.termination_message.specs.Shown.{reasonOf, codeOf, shown}
+use Rattle.termination_message.specs.Read.{kit, answer, reader}
 use Rattle.termination_message.proofs.Laws.{laws, tails}
 
--- the answer to s shows r, and r is a good reading of s that fits the table
-pub record Shows (s : List ℕ) (r : Reading) : Type 0 where
-  pub is-good : Good r
-  pub fits : Fits r
-  pub joined : join r ≡ s
-  pub shown-so : readTermination s ≡ shown r
-
-pub shows-of : (s : List ℕ) → length s ≤ Number.limit → (l : List Tlv) (t : Tail) → Walk.Accepts kit laws tails 0 s l t → Shows s (record { tlvs = l; tail = t })
+pub shows-of : (s : List ℕ) → length s ≤ Number.limit → (l : List Tlv) (t : Tail) → Walk.Accepts kit laws tails 0 s l t → Shows reader s (record { tlvs = l; tail = t })
 shows-of s h l t a =
     record {
-      is-good = record { each = a .each; tail-good = a .tail-good };
-      fits = a .few;
-      joined = a .joined;
+      reading = record { is-good = record { each = a .each; tail-good = a .tail-good }; fits = a .few; joined = a .joined };
       shown-so = rw (le-ltb Number.limit (length s) h) (ap answer (a .shown-so) ∙ ap (λ (u : Tail). shown (record { tlvs = l; tail = u })) (tail-join t (a .tail-good .well-formed)));
     }
 

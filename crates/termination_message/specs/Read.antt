@@ -10,8 +10,9 @@ use Rattle.wire.specs.Tlv.{stopAt}
 use Rattle.wire.specs.TlvAt.{tailOf}
 use Rattle.wire.specs.Walk as Walk
 use Rattle.wire.specs.Walk.{stop, bad, item, from, Kit, Out, good, refused, readFrom}
+use Rattle.wire.specs.Exactly.{Reader}
 use Rattle.termination_message.specs.Grammar.{Tlv, string, reason, sizeOf}
-use Rattle.termination_message.specs.Shown.{places, entry, zeroTlv, goodAnswer, refusedAnswer}
+use Rattle.termination_message.specs.Shown.{places, entry, zeroTlv, goodAnswer, refusedAnswer, grammar, shown}
 use Rattle.termination_message.specs.declared.TerminationTlv.{TerminationTlv}
 use Rattle.termination_message.specs.declared.TerminationAnswer.{TerminationAnswer}
 use Rattle.termination_message.specs.declared.Step.{Step}
@@ -53,3 +54,7 @@ answer (refused r) = refusedAnswer r
 abbrev pub readTermination : List ℕ → TerminationAnswer
 readTermination s =
     pick (ltb Number.limit (length s)) (refusedAnswer (refusal Number.TooLong 0)) (answer (readFrom kit (length s) 0 s))
+
+-- the reader, and the grammar that it is held against
+abbrev pub reader : Reader
+reader = record { grammar = grammar; Answer = TerminationAnswer; read = readTermination; numberOf = λ a. a .refusal .number; shown = shown }

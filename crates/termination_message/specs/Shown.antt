@@ -7,7 +7,8 @@ use Rattle.wire.specs.View.{view}
 use Rattle.wire.specs.Parts.{shownFrom, endFrom}
 use Rattle.wire.specs.Tlv.{Tail, stopAt}
 use Rattle.wire.specs.declared.Refusal.{Refusal}
-use Rattle.termination_message.specs.Grammar.{Tlv, string, reason, sizeOf, Reading}
+use Rattle.wire.specs.Exactly.{Grammar}
+use Rattle.termination_message.specs.Grammar.{Tlv, string, reason, sizeOf, Reading, join, Good}
 use Rattle.termination_message.specs.declared.TerminationTlvType.{TerminationTlvType}
 use Rattle.termination_message.specs.declared.TerminationTlvValue.{TerminationTlvValue}
 use Rattle.termination_message.specs.declared.TerminationReason.{TerminationReason}
@@ -76,3 +77,7 @@ abbrev pub shown : Reading → TerminationAnswer
 shown r =
     goodAnswer (length (r .tlvs)) (endFrom sizeOf 0 (r .tlvs))
     (shownFrom sizeOf entry 0 (r .tlvs) ++ replicate (places - length (r .tlvs)) zeroTlv) (r .tail)
+
+-- the grammar, with what fits the table
+abbrev pub grammar : Grammar
+grammar = record { Reading = Reading; join = join; Good = Good; Fits = Fits }

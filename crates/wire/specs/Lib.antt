@@ -7,3 +7,4 @@ pub mod Tlv
 pub mod TlvAt
 pub mod Walk
 pub mod Arms
+pub mod Exactly

@@ -7,6 +7,8 @@ use Rattle.wire.specs.Number as Number
 use Rattle.wire.specs.Bytes.{pick}
 use Rattle.wire.specs.Read.{refusal, cutAt}
 use Rattle.wire.specs.View.{view}
+use Rattle.wire.specs.Exactly.{Reader}
+use Rattle.splitter.specs.Shown.{grammar, shown, refusalOf}
 use Rattle.common_header.specs.Read.{readCommonHeader}
 use Rattle.common_header.specs.declared.BmpCommonHeader.{BmpCommonHeader}
 use Rattle.common_header.specs.declared.CommonHeaderAnswer.{CommonHeaderAnswer}
@@ -26,3 +28,7 @@ afterHeader there (CommonHeaderAnswer.Refused r) = SplitAnswer.Refused r
 
 abbrev pub splitOf : List ℕ → SplitAnswer
 splitOf s = afterHeader (length s) (readCommonHeader s)
+
+-- the reader, and the grammar that it is held against
+abbrev pub reader : Reader
+reader = record { grammar = grammar; Answer = SplitAnswer; read = splitOf; numberOf = λ a. refusalOf a .number; shown = shown }
