@@ -9,7 +9,7 @@ use lib.Dec.{ltb, eqb, lit<}
 use lib.ListN.{length}
 use Rattle.wire.specs.Number as Number
 use Rattle.wire.specs.Bytes.{pick, has, be, numAt, Bytes}
-use Rattle.wire.specs.Read.{refusal, cutAt}
+use Rattle.wire.specs.Refusal.{refusal, cutAt}
 use Rattle.wire.proofs.Bytes.{value-be, num-back}
 use Rattle.common_header.specs.Grammar.{Reading, join, Good}
 use Rattle.common_header.specs.Shown.{shown, refusalOf}

@@ -5,7 +5,7 @@ use lib.ListN.{length, drop}
 use lib.Dec.{ltb, eqb}
 use Rattle.wire.specs.Number as Number
 use Rattle.wire.specs.Bytes.{pick, has, numAt}
-use Rattle.wire.specs.Read.{refusal, cutAt}
+use Rattle.wire.specs.Refusal.{refusal, cutAt}
 use Rattle.wire.specs.Exactly.{Reader}
 use Rattle.common_header.specs.Grammar.{Reading}
 use Rattle.common_header.specs.Shown.{shown, grammar, refusalOf}

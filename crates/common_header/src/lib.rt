@@ -1,14 +1,14 @@
 // The common header of a BMP message (RFC 7854, section 4.1).
-use wire::Cursor;
-use wire::ReadU8;
-use wire::ReadU32;
+use cursor::Cursor;
+use cursor::ReadU8;
+use cursor::ReadU32;
 use wire::Refusal;
 use writing::WriteAnswer;
 ghost use mathlib.Core.Path.{_≡_};
 ghost use Prim.Native.Nat.{_≤_};
 ghost use lib.ListN.{length};
 ghost use lib.Seq.{sets};
-ghost use Rattle.wire.specs.Read.{refusal};
+ghost use Rattle.wire.specs.Refusal.{refusal};
 ghost use Rattle.writing.specs.Write.{writeAnswer, written};
 ghost use Rattle.common_header.specs.declared.CommonFields.{CommonFields};
 ghost use Rattle.common_header.specs.declared.CommonHeaderAnswer.{CommonHeaderAnswer};

@@ -5,7 +5,7 @@ use Rattle.wire.specs.Exactly.{Exactly}
 use Rattle.wire.proofs.Exactly.{exactly-from}
 use Rattle.models.specs.declared.Afi.{Afi}
 use Rattle.models.specs.declared.AsnLength.{AsnLength}
-use Rattle.peer.specs.declared.BmpPeerType.{BmpPeerType}
+use Rattle.peer_type.specs.declared.BmpPeerType.{BmpPeerType}
 use Rattle.common_header.specs.Read as CommonHeader
 use Rattle.common_header.proofs.Promises as CommonHeaderPromises
 use Rattle.per_peer_header.specs.Read as PerPeerHeader

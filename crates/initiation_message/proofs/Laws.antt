@@ -6,11 +6,11 @@ use Prim.Native.Nat.{ℕ, _+_, _≤_, _<_}
 use native.Mathlib.Omega.{arith}
 use lib.ListN.{length, drop, set}
 use Rattle.wire.specs.Number as Number
-use Rattle.wire.specs.Read.{refusal}
+use Rattle.wire.specs.Refusal.{refusal}
 use Rattle.wire.specs.Tlv.{Tlv, putTlv, sizeOf, Tail, putTail, GoodTail}
 use Rattle.wire.specs.TlvAt.{tlvOf, tailOf}
 use Rattle.wire.specs.Walk.{item}
-use Rattle.wire.specs.declared.Cursor.{Cursor}
+use Rattle.cursor.specs.declared.Cursor.{Cursor}
 use Rattle.wire.proofs.Tlv.{tlv-there, tlv-join, tlv-rest, tlv-parts, tail-none, tail-join, tail-parts}
 use Rattle.wire.proofs.Walk.{Takes, Faults, Laws, Tails, onwards, turn}
 use Rattle.initiation_message.specs.Grammar.{ReadTlv}

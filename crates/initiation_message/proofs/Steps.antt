@@ -9,14 +9,14 @@ use borrow.Author.Tests.{lt-leb, le-leb, lt-ltb, le-ltb, leb-true, leb-false, lt
 use lib.Dec.{leb, ltb}
 use lib.ListN.{length, drop, length-drop}
 use Rattle.wire.specs.Bytes.{pick, numAt}
-use Rattle.wire.specs.Read.{cursor}
+use Rattle.cursor.specs.Read.{cursor}
 use Rattle.wire.specs.View.{view}
 use Rattle.wire.specs.Tlv.{Tlv, sizeOf, stopAt}
 use Rattle.wire.specs.TlvAt.{tlvOf, tailOf}
 use Rattle.wire.specs.Walk as Walk
 use Rattle.wire.specs.Walk.{stop, bad, item}
 use Rattle.wire.specs.declared.Refusal.{Refusal}
-use Rattle.wire.specs.declared.Cursor.{Cursor}
+use Rattle.cursor.specs.declared.Cursor.{Cursor}
 use Rattle.wire.proofs.Tlv.{NoTlv}
 use Rattle.initiation_message.specs.Shown.{typeOf, entry}
 use Rattle.initiation_message.specs.Read.{step, told, stepAt}

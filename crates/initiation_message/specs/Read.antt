@@ -5,7 +5,8 @@ use lib.ListN.{length, drop}
 use lib.Dec.{leb, ltb}
 use Rattle.wire.specs.Number as Number
 use Rattle.wire.specs.Bytes.{pick, numAt}
-use Rattle.wire.specs.Read.{refusal, cursor}
+use Rattle.wire.specs.Refusal.{refusal}
+use Rattle.cursor.specs.Read.{cursor}
 use Rattle.wire.specs.Tlv.{Tlv, sizeOf, stopAt}
 use Rattle.wire.specs.TlvAt.{tlvOf, tailOf}
 use Rattle.wire.specs.Walk as Walk

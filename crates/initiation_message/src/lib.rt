@@ -1,6 +1,6 @@
 // The body of a BMP Initiation message (RFC 7854, section 4.3).
-use wire::Cursor;
-use wire::ReadU16;
+use cursor::Cursor;
+use cursor::ReadU16;
 use wire::Refusal;
 use wire::View;
 use writing::WriteAnswer;
@@ -9,7 +9,7 @@ ghost use mathlib.Core.Bool.{true};
 ghost use Prim.Native.Nat.{_+_, _≤_};
 ghost use lib.ListN.{length};
 ghost use lib.Seq.{sets};
-ghost use Rattle.wire.specs.Read.{refusal};
+ghost use Rattle.wire.specs.Refusal.{refusal};
 ghost use Rattle.writing.specs.Write.{putAt, writeAnswer, written};
 ghost use Rattle.writing.specs.Table.{sizes};
 ghost use Rattle.initiation_message.specs.Shown.{typeOf, kindOf, zeroTlv, refusedAnswer};

@@ -7,7 +7,7 @@ use native.Mathlib.Numerals.{add-one}
 use borrow.Author.Tests.{le-leb, lt-leb}
 use lib.ListN.{length, drop, getD, drop-of-length-le}
 use lib.Seq.{drop-cons}
-use Rattle.wire.specs.Read.{cutAt}
+use Rattle.wire.specs.Refusal.{cutAt}
 use Rattle.layout.specs.Layout.{firstCut, cutIn}
 
 module _ (ws : List ℕ) (at : ℕ) where

@@ -4,7 +4,7 @@ use mathlib.Core.List.{List, [], _∷_, _++_}
 use lib.Dec.{leb}
 use lib.ListN.{take, drop, replicate}
 use Rattle.wire.specs.Bytes.{pick, has}
-use Rattle.wire.specs.Read.{cutAt}
+use Rattle.wire.specs.Refusal.{cutAt}
 use Rattle.wire.specs.declared.Refusal.{Refusal}
 
 -- how many bytes the fields take

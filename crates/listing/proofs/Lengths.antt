@@ -9,7 +9,7 @@ use lib.Dec.{ltb}
 use lib.ListN.{length, drop, length-append, length-drop}
 use Rattle.wire.specs.Number as Number
 use Rattle.wire.specs.Bytes.{pick}
-use Rattle.wire.specs.Read.{refusal}
+use Rattle.wire.specs.Refusal.{refusal}
 use Rattle.wire.specs.Walk.{fault, walk}
 use Rattle.decimal.specs.Decimal.{decimal}
 use Rattle.decimal.proofs.Promises.{at-most}

@@ -7,7 +7,7 @@ use native.Mathlib.Omega.{arith}
 use borrow.Author.Tests.{lt-ltb, le-ltb}
 use lib.ListN.{length, drop}
 use Rattle.wire.specs.Number as Number
-use Rattle.wire.specs.Read.{refusal}
+use Rattle.wire.specs.Refusal.{refusal}
 use Rattle.wire.specs.Bytes.{Bytes}
 use Rattle.wire.proofs.Bytes.{bytes-take, bytes-drop}
 use Rattle.wire.proofs.Determined.{determined}

@@ -5,7 +5,7 @@ use lib.ListN.{length, drop}
 use lib.Dec.{ltb, eqb}
 use Rattle.wire.specs.Number as Number
 use Rattle.wire.specs.Bytes.{pick}
-use Rattle.wire.specs.Read.{refusal}
+use Rattle.wire.specs.Refusal.{refusal}
 use Rattle.wire.specs.View.{viewed}
 use Rattle.wire.specs.Walk.{Step, stop, bad, item, End, tail, fault, Walked, Kit, walk}
 use Rattle.common_header.specs.Shown.{kindOf}

@@ -14,7 +14,7 @@ use Rattle.wire.proofs.Walk.{BadIn, faults-in, fault-in}
 use Rattle.wire.specs.View.{view}
 use Rattle.wire.specs.declared.View.{View}
 use Rattle.models.specs.declared.Afi.{Afi}
-use Rattle.peer.specs.declared.BmpPeerType.{BmpPeerType}
+use Rattle.peer_type.specs.declared.BmpPeerType.{BmpPeerType}
 use Rattle.peer.specs.Header.{asnLengthOf, afiOf}
 use Rattle.peer.specs.declared.BmpPerPeerHeader.{BmpPerPeerHeader}
 use Rattle.per_peer_header.specs.Read.{readPerPeerHeader}

@@ -3,7 +3,7 @@ use Prim.Native.Nat.{_+_}
 use mathlib.Core.List.{_++_}
 use lib.ListN.{replicate}
 use lib.Ieee.{binary64, ofBits}
-use Rattle.wire.specs.Read.{noRefusal}
+use Rattle.wire.specs.Refusal.{noRefusal}
 use Rattle.wire.specs.View.{view}
 use Rattle.wire.specs.declared.Refusal.{Refusal}
 use Rattle.wire.specs.Exactly.{Grammar, noTable}

@@ -8,7 +8,7 @@ ghost use mathlib.Core.Path.{_≡_};
 ghost use mathlib.Core.List.{_++_};
 ghost use Prim.Native.Nat.{_≤_, _<_, _+_};
 ghost use lib.ListN.{length, take, replicate};
-ghost use Rattle.wire.specs.Read.{refusal};
+ghost use Rattle.wire.specs.Refusal.{refusal};
 ghost use Rattle.writing.specs.Write.{putAt, writeAnswer, written};
 ghost use Rattle.openbmp.specs.Grammar.{flagsOf};
 ghost use Rattle.openbmp.specs.Shown.{shownIp, shown, refused};

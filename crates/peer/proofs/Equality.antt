@@ -4,7 +4,7 @@ use mathlib.Core.Path.{_≡_}
 use borrow.Author.Tests.{eq-eqb, ne-eqb}
 use lib.Ieee.{eq}
 use Rattle.models.specs.Address.{sameAddress}
-use Rattle.peer.specs.Peer.{kindOf}
+use Rattle.peer_type.specs.Peer.{kindOf}
 use Rattle.peer.specs.Header.{sameHeader}
 use Rattle.peer.specs.declared.BmpPerPeerHeader.{BmpPerPeerHeader}
 

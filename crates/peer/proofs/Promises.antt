@@ -1,7 +1,7 @@
 -- What a user of the crate relies on. Assumes nothing.
 use mathlib.Core.Bool.{Bool, true, false, _&&_, and-eq-true-iff}
 use mathlib.Core.Logic.{_↔_}
-use mathlib.Core.Path.{_≡_, refl, sym, ap, _∙_}
+use mathlib.Core.Path.{_≡_, refl, ap, _∙_}
 use Prim.Native.Nat.{ℕ}
 use native.Mathlib.Omega.{arith}
 use borrow.Author.Tests.{eqb-true, eq-eqb}
@@ -13,19 +13,13 @@ use Rattle.models.specs.Address.{sameAddress}
 use Rattle.models.specs.declared.Afi.{Afi}
 use Rattle.models.specs.declared.AsnLength.{AsnLength}
 use Rattle.models.proofs.Promises.{equals-is-equality}
-use Rattle.peer.specs.Peer.{kindOf, typeOf, flagL, flagO, flagF, addressFamily, asnLength}
+use Rattle.peer_type.specs.Peer.{kindOf}
+use Rattle.peer_type.proofs.Promises.{number-tells}
 use Rattle.peer.specs.Header.{afiOf, asnLengthOf, peerTime, sameHeader, stripped}
-use Rattle.peer.specs.declared.BmpPeerType.{BmpPeerType}
-use Rattle.peer.specs.declared.PerPeerFlags.{PerPeerFlags}
 use Rattle.peer.specs.declared.BmpPerPeerHeader.{BmpPerPeerHeader}
 use Rattle.peer.specs.declared.PeerTime.{PeerTime}
 use Rattle.peer.specs.declared.PeerTime.the-variants.{Unavailable, At}
-use Rattle.peer.proofs.Told.{named}
 use Rattle.peer.proofs.Equality.{same-but-time}
-
--- Different types have different numbers.
-pub number-tells : (s t : BmpPeerType) → kindOf s ≡ kindOf t → s ≡ t
-number-tells s t e = sym (named s .0) ∙ ap typeOf e ∙ named t .0
 
 -- ---- equality
 -- six fields are the same, and `==` finds the times equal
@@ -85,25 +79,6 @@ pub stripped-is-unavailable : (h : BmpPerPeerHeader) → peerTime (stripped h) �
 stripped-is-unavailable h = refl
 
 -- ---- any two answers that the contracts allow are equal
-pub number-determined : (t : BmpPeerType) (r q : ℕ) → r ≡ kindOf t → q ≡ kindOf t → r ≡ q
-number-determined t r q = determined
-
-module _ (flags : PerPeerFlags) where
-  pub address-family-determined : (r q : Afi) → r ≡ addressFamily (flags .0) → q ≡ addressFamily (flags .0) → r ≡ q
-  address-family-determined r q = determined
-
-  pub is-post-policy-determined : (r q : Bool) → r ≡ flagL (flags .0) → q ≡ flagL (flags .0) → r ≡ q
-  is-post-policy-determined r q = determined
-
-  pub flags-asn-length-determined : (r q : AsnLength) → r ≡ asnLength (flags .0) → q ≡ asnLength (flags .0) → r ≡ q
-  flags-asn-length-determined r q = determined
-
-  pub is-adj-rib-out-determined : (r q : Bool) → r ≡ flagO (flags .0) → q ≡ flagO (flags .0) → r ≡ q
-  is-adj-rib-out-determined r q = determined
-
-  pub is-filtered-determined : (r q : Bool) → r ≡ flagF (flags .0) → q ≡ flagF (flags .0) → r ≡ q
-  is-filtered-determined r q = determined
-
 module _ (h : BmpPerPeerHeader) where
   pub afi-determined : (r q : Afi) → r ≡ afiOf h → q ≡ afiOf h → r ≡ q
   afi-determined r q = determined

@@ -7,7 +7,7 @@ use Rattle.models.specs.Address.{sameAddress}
 use Rattle.models.specs.declared.Afi.{Afi}
 use Rattle.models.specs.declared.AsnLength.{AsnLength}
 use Rattle.models.specs.declared.AsnLength.the-variants.{Bits32}
-use Rattle.peer.specs.Peer.{kindOf, isLocRib, asnLength}
+use Rattle.peer_type.specs.Peer.{kindOf, isLocRib, asnLength}
 use Rattle.peer.specs.declared.BmpPerPeerHeader.{BmpPerPeerHeader}
 use Rattle.peer.specs.declared.PeerTime.{PeerTime}
 use Rattle.peer.specs.declared.PeerTime.the-variants.{Unavailable, At}

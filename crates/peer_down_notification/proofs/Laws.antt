@@ -10,7 +10,7 @@ use lib.Dec.{ltb}
 use lib.ListN.{length, drop, length-drop}
 use Rattle.wire.specs.Number as Number
 use Rattle.wire.specs.Bytes.{pick, has, be, numAt, Bytes, none}
-use Rattle.wire.specs.Read.{refusal, cutAt}
+use Rattle.wire.specs.Refusal.{refusal, cutAt}
 use Rattle.wire.specs.View.{view}
 use Rattle.wire.proofs.Bytes.{value-be, num-back, bytes-drop}
 use Rattle.peer_down_notification.specs.Grammar.{Data, absent, present, Reading, dataBytes, join, Follows, the-rest, some-rest, no-rest, no-data, Good}

@@ -1,13 +1,13 @@
 // The body of a BMP Peer Down notification (RFC 7854, section 4.9).
-use wire::Cursor;
-use wire::ReadU8;
+use cursor::Cursor;
+use cursor::ReadU8;
 use wire::Refusal;
 use wire::View;
 use writing::WriteAnswer;
 ghost use mathlib.Core.Path.{_≡_};
 ghost use Prim.Native.Nat.{_≤_};
 ghost use lib.ListN.{length};
-ghost use Rattle.wire.specs.Read.{refusal};
+ghost use Rattle.wire.specs.Refusal.{refusal};
 ghost use Rattle.writing.specs.Write.{writeAnswer, written};
 ghost use Rattle.peer_down_notification.specs.declared.PeerDownAnswer.{PeerDownAnswer};
 ghost use Rattle.peer_down_notification.specs.Shown.{reasonOf, kindOf, isPresent, viewOf};

@@ -8,10 +8,10 @@ use Rattle.wire.specs.Bytes.{Bytes}
 use Rattle.wire.specs.Tlv.{Tlv, putTlv, sizeOf}
 use Rattle.wire.specs.Walk.{stop, item, Out, refused}
 use Rattle.wire.specs.declared.Refusal.{Refusal}
-use Rattle.wire.specs.declared.Cursor.{Cursor}
+use Rattle.cursor.specs.declared.Cursor.{Cursor}
 use Rattle.wire.proofs.Tlv.{tlv-length, tlv-there, tlv-join, tlv-rest, tlv-parts}
 use Rattle.wire.proofs.Walk.{Takes, Faults, Laws, Tails, onwards, TurnTo, turn-to, onwards-bad, resume-stop}
-use Rattle.peer.specs.declared.BmpPeerType.{BmpPeerType}
+use Rattle.peer_type.specs.declared.BmpPeerType.{BmpPeerType}
 use Rattle.peer_up_notification.specs.Grammar.{ReadTlv, GoodTail}
 use Rattle.peer_up_notification.specs.Shown.{messageOf, goodAnswer}
 use Rattle.peer_up_notification.specs.Read.{step, stepAt, kit, warningsIn, withTlvs}

@@ -15,7 +15,7 @@ use Rattle.writing.specs.declared.WriteAnswer.the-variants.{Written}
 use Rattle.writing.proofs.Answers.{front}
 use Rattle.writing.proofs.Table.{length-parts}
 use Rattle.models.specs.declared.Afi.{Afi}
-use Rattle.peer.specs.declared.BmpPeerType.{BmpPeerType}
+use Rattle.peer_type.specs.declared.BmpPeerType.{BmpPeerType}
 use Rattle.peer_up_notification.specs.Grammar.{Reading, join, Good}
 use Rattle.peer_up_notification.specs.Shown.{Fits, shown, grammar}
 use Rattle.peer_up_notification.specs.Read.{readPeerUp, reader}

@@ -18,7 +18,7 @@ use Rattle.wire.proofs.Walk.{read-complete, each-at}
 use Rattle.layout.specs.Layout.{sixteenAt}
 use Rattle.models.specs.declared.Afi.{Afi}
 use Rattle.models.specs.declared.Afi.the-variants.{Ipv4, Ipv6}
-use Rattle.peer.specs.declared.BmpPeerType.{BmpPeerType}
+use Rattle.peer_type.specs.declared.BmpPeerType.{BmpPeerType}
 use Rattle.peer_up_notification.specs.Grammar.{messageBytes, joinTlvs, join, skippedFor, addressFor, Reading, Good}
 use Rattle.peer_up_notification.specs.Warnings.{Head, warningsOf}
 use Rattle.peer_up_notification.specs.Shown.{entry, sentAt, receivedAt, tlvsAt, shownAddress, shownFront, goodAnswer, Fits, shown}

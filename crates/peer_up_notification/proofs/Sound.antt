@@ -10,18 +10,18 @@ use lib.ListN.{length, take, drop, length-drop, take-append-drop}
 use lib.Seq.{length-take-le}
 use Rattle.wire.specs.Number as Number
 use Rattle.wire.specs.Bytes.{pick, be, numAt, Bytes}
-use Rattle.wire.specs.Read.{refusal}
+use Rattle.wire.specs.Refusal.{refusal}
 use Rattle.wire.specs.Parts.{joinAll}
 use Rattle.wire.specs.Tlv.{Tlv, putTlv}
 use Rattle.wire.specs.Walk.{Out, good, refused, readFrom}
-use Rattle.wire.specs.declared.Cursor.{Cursor}
+use Rattle.cursor.specs.declared.Cursor.{Cursor}
 use Rattle.wire.specs.declared.View.{View}
 use Rattle.wire.proofs.Bytes.{length-be, be-injective, num-lt, num-back, bytes-take, bytes-drop}
 use Rattle.wire.proofs.Walk.{read-sound, read-fault}
 use Rattle.wire.proofs.Walk as Walk
 use Rattle.layout.specs.Layout.{cutIn}
 use Rattle.models.specs.declared.Afi.{Afi}
-use Rattle.peer.specs.declared.BmpPeerType.{BmpPeerType}
+use Rattle.peer_type.specs.declared.BmpPeerType.{BmpPeerType}
 use Rattle.peer_up_notification.specs.Grammar.{widths, join, skippedFor, Reading, Good}
 use Rattle.peer_up_notification.specs.Shown.{sentAt, refusedAnswer, Fits}
 use Rattle.peer_up_notification.specs.Read.{openAt, frontOf, kit, withTlvs, withReceived, withSent, readPeerUp}

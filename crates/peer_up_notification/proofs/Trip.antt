@@ -14,7 +14,7 @@ use Rattle.wire.proofs.Bytes.{bytes-drop}
 use Rattle.writing.proofs.Tlv.{tlv-good}
 use Rattle.writing.proofs.Table.{all-good, length-parts}
 use Rattle.writing.proofs.Trip.{each-same, end-sizes}
-use Rattle.peer.specs.declared.BmpPeerType.{BmpPeerType}
+use Rattle.peer_type.specs.declared.BmpPeerType.{BmpPeerType}
 use Rattle.peer_up_notification.specs.Grammar.{ReadTlv, skippedFor, Good}
 use Rattle.peer_up_notification.specs.Shown.{kindOf, zeroTlv, entry, tlvsAt, shown}
 use Rattle.peer_up_notification.specs.Read.{readPeerUp}

@@ -6,7 +6,8 @@ use lib.ListN.{length, take, drop}
 use lib.Dec.{ltb}
 use Rattle.wire.specs.Number as Number
 use Rattle.wire.specs.Bytes.{pick, numAt, numberAt}
-use Rattle.wire.specs.Read.{refusal, cutAt, cursor}
+use Rattle.wire.specs.Refusal.{refusal, cutAt}
+use Rattle.cursor.specs.Read.{cursor}
 use Rattle.wire.specs.View.{view}
 use Rattle.wire.specs.Tlv.{Tlv, sizeOf}
 use Rattle.wire.specs.TlvAt.{tlvOf}
@@ -17,7 +18,7 @@ use Rattle.wire.specs.Exactly.{Reader}
 use Rattle.layout.specs.Layout.{cutIn, sixteenAt}
 use Rattle.models.specs.declared.Afi.{Afi}
 use Rattle.models.specs.declared.IpAddr.{IpAddr}
-use Rattle.peer.specs.declared.BmpPeerType.{BmpPeerType}
+use Rattle.peer_type.specs.declared.BmpPeerType.{BmpPeerType}
 use Rattle.peer_up_notification.specs.Grammar.{widths, skippedFor}
 use Rattle.peer_up_notification.specs.Warnings.{Head, some, isTableName, badTableName, warningsOf}
 use Rattle.peer_up_notification.specs.Shown.{kindOf, places, entry, zeroTlv, sentAt, shownAddress, messageOf, goodAnswer, refusedAnswer, grammar, shown}

@@ -2,7 +2,7 @@
 use Prim.Native.Nat.{ℕ, _+_, _-_, _≤_}
 use mathlib.Core.List.{List, [], _∷_, _++_}
 use lib.ListN.{length, replicate, getD}
-use Rattle.wire.specs.Read.{noRefusal}
+use Rattle.wire.specs.Refusal.{noRefusal}
 use Rattle.wire.specs.View.{view}
 use Rattle.wire.specs.Parts.{shownFrom, endFrom}
 use Rattle.wire.specs.Tlv.{Tlv, sizeOf}
@@ -11,7 +11,7 @@ use Rattle.wire.specs.Exactly.{Grammar}
 use Rattle.models.specs.Address.{unspecified}
 use Rattle.models.specs.declared.Afi.{Afi}
 use Rattle.models.specs.declared.IpAddr.{IpAddr}
-use Rattle.peer.specs.declared.BmpPeerType.{BmpPeerType}
+use Rattle.peer_type.specs.declared.BmpPeerType.{BmpPeerType}
 use Rattle.peer_up_notification.specs.Grammar.{skippedFor, Reading, join, Good}
 use Rattle.peer_up_notification.specs.Warnings.{warnings}
 use Rattle.peer_up_notification.specs.declared.PeerUpTlvType.{PeerUpTlvType}

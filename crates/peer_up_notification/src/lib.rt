@@ -1,9 +1,9 @@
 // The body of a BMP Peer Up notification (RFC 7854, section 4.10), behind the per-peer header.
+use cursor::Cursor;
+use cursor::ReadU16;
 use models::Afi;
 use models::IpAddr;
-use peer::BmpPeerType;
-use wire::Cursor;
-use wire::ReadU16;
+use peer_type::BmpPeerType;
 use wire::Refusal;
 use wire::View;
 use writing::WriteAnswer;
@@ -14,7 +14,7 @@ ghost use lib.Dec.{eqb, ltb};
 ghost use lib.ListN.{length, take};
 ghost use lib.Seq.{sets};
 ghost use Rattle.wire.specs.Bytes.{pick};
-ghost use Rattle.wire.specs.Read.{refusal};
+ghost use Rattle.wire.specs.Refusal.{refusal};
 ghost use Rattle.wire.specs.Walk.{readFrom};
 ghost use Rattle.layout.specs.Layout.{cutIn};
 ghost use Rattle.writing.specs.Write.{putAt, writeAnswer, written};
@@ -298,7 +298,7 @@ fn warnings_of(peer_type: BmpPeerType, message: PeerUpNotification) -> u32
     requires { ⌜ message .count ≤ 32 ⌝ }
     ensures { λ r. ⌜ r ≡ warningsIn «peer_type» (kept message) ⌝ }
 {
-    if peer_type.number() != peer::LOCAL_RIB {
+    if peer_type.number() != peer_type::LOCAL_RIB {
         return 0;
     }
     let names = names_in(message);

@@ -10,7 +10,7 @@ use lib.ListN.{length, take, drop, length-append}
 use lib.Seq.{take-at, drop-at, drop-drop}
 use Rattle.wire.specs.Number as Number
 use Rattle.wire.specs.Bytes.{pick, be, value, numAt, numberAt, Bytes}
-use Rattle.wire.specs.Read.{refusal}
+use Rattle.wire.specs.Refusal.{refusal}
 use Rattle.wire.proofs.Bytes.{value-be, num-lt, num-back, part-back}
 use Rattle.layout.specs.Layout.{cutIn}
 use Rattle.per_peer_header.specs.Grammar.{widths, Reading, addressBytes, asBytes, join, Good}

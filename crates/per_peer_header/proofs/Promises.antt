@@ -8,7 +8,7 @@ use borrow.Author.Tests.{lt-ltb, le-ltb}
 use lib.ListN.{length, take, drop}
 use Rattle.wire.specs.Number as Number
 use Rattle.wire.specs.Bytes.{pick, numAt, numberAt, Bytes}
-use Rattle.wire.specs.Read.{refusal, noRefusal, cutAt}
+use Rattle.wire.specs.Refusal.{refusal, noRefusal, cutAt}
 use Rattle.wire.proofs.Bytes.{num-lt, bytes-take, bytes-drop, number-is}
 use Rattle.wire.proofs.Views.{length-part}
 use Rattle.wire.proofs.Determined.{determined}

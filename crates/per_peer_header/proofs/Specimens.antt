@@ -5,7 +5,7 @@ use mathlib.Core.Path.{_≡_, refl, _∙_}
 use native.Mathlib.Omega.{arith}
 use lib.ListN.{length, replicate}
 use Rattle.wire.specs.Bytes.{be, value, numberAt}
-use Rattle.wire.specs.Read.{cutAt}
+use Rattle.wire.specs.Refusal.{cutAt}
 use Rattle.models.specs.Address.{unspecified}
 use Rattle.models.specs.declared.Afi.the-variants.{Ipv4, Ipv6}
 use Rattle.models.specs.declared.IpAddr.{IpAddr}

@@ -22,7 +22,7 @@ use mathlib.Core.Path.{_≡_}
 use mathlib.Core.List.{List, [], _∷_, _++_}
 use lib.ListN.{length}
 use Rattle.wire.specs.Bytes.{be, Bytes}
-use Rattle.peer.specs.Peer.{flagV, flagA}
+use Rattle.peer_type.specs.Peer.{flagV, flagA}
 
 -- the fields' widths in order: an address is one field, and so is an AS
 abbrev pub widths : List ℕ

@@ -5,10 +5,10 @@ use lib.Dec.{ltb}
 use lib.ListN.{length, take, drop}
 use Rattle.wire.specs.Number as Number
 use Rattle.wire.specs.Bytes.{pick, numAt, numberAt}
-use Rattle.wire.specs.Read.{refusal}
+use Rattle.wire.specs.Refusal.{refusal}
 use Rattle.wire.specs.Exactly.{Reader}
 use Rattle.layout.specs.Layout.{cutIn}
-use Rattle.peer.specs.Peer.{isLocRib, flagV, flagA}
+use Rattle.peer_type.specs.Peer.{isLocRib, flagV, flagA}
 use Rattle.per_peer_header.specs.Grammar.{widths, AddressField, ipv4, ipv6, unused, AsField, as16, as32, Reading}
 use Rattle.per_peer_header.specs.Shown.{shown, refused, grammar}
 use Rattle.per_peer_header.specs.declared.PerPeerHeaderAnswer.{PerPeerHeaderAnswer}

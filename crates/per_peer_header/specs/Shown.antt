@@ -3,7 +3,7 @@ use Prim.Native.Nat.{ℕ}
 use mathlib.Core.List.{_++_}
 use lib.ListN.{replicate}
 use lib.Ieee.{binary64, ofBits}
-use Rattle.wire.specs.Read.{noRefusal}
+use Rattle.wire.specs.Refusal.{noRefusal}
 use Rattle.wire.specs.declared.Refusal.{Refusal}
 use Rattle.wire.specs.Exactly.{Grammar, noTable}
 use Rattle.models.specs.Address.{unspecified}
@@ -12,8 +12,8 @@ use Rattle.models.specs.declared.Afi.the-variants.{Ipv4, Ipv6}
 use Rattle.models.specs.declared.IpAddr.{IpAddr}
 use Rattle.per_peer_header.specs.Grammar.{AddressField, ipv4, ipv6, unused, AsField, as16, as32, Reading, join, Good}
 use Rattle.per_peer_header.specs.Warnings.{warnings}
-use Rattle.peer.specs.Peer.{typeOf}
-use Rattle.peer.specs.declared.BmpPeerType.the-variants.{Global}
+use Rattle.peer_type.specs.Peer.{typeOf}
+use Rattle.peer_type.specs.declared.BmpPeerType.the-variants.{Global}
 use Rattle.peer.specs.declared.BmpPerPeerHeader.{BmpPerPeerHeader}
 use Rattle.per_peer_header.specs.declared.PerPeerHeaderAnswer.{PerPeerHeaderAnswer}
 

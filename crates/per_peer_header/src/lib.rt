@@ -5,9 +5,9 @@ use models::AsnLength;
 use models::BgpIdentifier;
 use models::IpAddr;
 use models::PeerDistinguisher;
-use peer::BmpPeerType;
 use peer::BmpPerPeerHeader;
-use peer::PerPeerFlags;
+use peer_type::BmpPeerType;
+use peer_type::PerPeerFlags;
 use wire::Refusal;
 use writing::WriteAnswer;
 ghost use mathlib.Core.Path.{_≡_};
@@ -19,7 +19,7 @@ ghost use lib.Seq.{sets};
 ghost use Rattle.wire.specs.Bytes.{pick};
 ghost use Rattle.layout.specs.Layout.{cutIn};
 ghost use Rattle.writing.specs.Write.{writeAnswer, written};
-ghost use Rattle.peer.specs.Peer.{typeOf};
+ghost use Rattle.peer_type.specs.Peer.{typeOf};
 ghost use Rattle.per_peer_header.specs.Grammar.{widths};
 ghost use Rattle.per_peer_header.specs.Warnings.{zeroFilled, warningsOf};
 ghost use Rattle.per_peer_header.specs.Shown.{shownAddress, shownAsn, shown, refused};
@@ -50,7 +50,7 @@ pub fn parse_per_peer_header(s: &[u8]) -> PerPeerHeaderAnswer
             place: 0,
         });
     }
-    if peer::LOCAL_RIB < wire::u8_at(s, 0) {
+    if peer_type::LOCAL_RIB < wire::u8_at(s, 0) {
         return refused_with(Refusal {
             number: wire::UNKNOWN_KIND,
             place: 0,
@@ -141,7 +141,7 @@ fn type_of(kind: u8) -> BmpPeerType
 fn shown_address(kind: u8, flags: PerPeerFlags, octets: [u8; 16]) -> IpAddr
     ensures { λ r. ⌜ r ≡ shownAddress (addressField kind (flags .0) octets) ⌝ }
 {
-    if kind == peer::LOCAL_RIB {
+    if kind == peer_type::LOCAL_RIB {
         return IpAddr::unspecified();
     }
     match flags.address_family() {
@@ -160,7 +160,7 @@ fn shown_address(kind: u8, flags: PerPeerFlags, octets: [u8; 16]) -> IpAddr
 fn shown_asn(kind: u8, flags: PerPeerFlags, number: u32) -> u32
     ensures { λ r. ⌜ r ≡ shownAsn (asField kind (flags .0) number) ⌝ }
 {
-    if kind == peer::LOCAL_RIB {
+    if kind == peer_type::LOCAL_RIB {
         return number;
     }
     match flags.asn_length() {
@@ -172,7 +172,7 @@ fn shown_asn(kind: u8, flags: PerPeerFlags, number: u32) -> u32
 fn warnings_of(kind: u8, address: [u8; 16], id: u32, distinguisher: u64) -> u32
     ensures { λ r. ⌜ r ≡ warningsOf kind address id distinguisher ⌝ }
 {
-    if kind != peer::LOCAL_RIB {
+    if kind != peer_type::LOCAL_RIB {
         return 0;
     }
     word_of(is_zero_filled(address), lacks_router_id(id, distinguisher))

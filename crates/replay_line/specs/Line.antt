@@ -10,8 +10,8 @@ use Rattle.models.specs.declared.Afi.{Afi}
 use Rattle.models.specs.declared.Afi.the-variants.{Ipv4, Ipv6}
 use Rattle.models.specs.declared.AsnLength.{AsnLength}
 use Rattle.models.specs.declared.AsnLength.the-variants.{Bits16, Bits32}
-use Rattle.peer.specs.declared.BmpPeerType.{BmpPeerType}
-use Rattle.peer.specs.declared.BmpPeerType.the-variants.{Global, RD, Local, LocalRib}
+use Rattle.peer_type.specs.declared.BmpPeerType.{BmpPeerType}
+use Rattle.peer_type.specs.declared.BmpPeerType.the-variants.{Global, RD, Local, LocalRib}
 use Rattle.replay_line.specs.Words.{Row, row, word, starts, same, meaning}
 use Rattle.replay_line.specs.declared.Reader.{Reader}
 use Rattle.replay_line.specs.declared.Reader.the-variants.{Common, PerPeer, Stats, Initiation, Termination, PeerDown, OpenBmp, Mirroring, Monitoring, PeerUp}

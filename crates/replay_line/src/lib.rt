@@ -1,7 +1,7 @@
 // A line for the replay program, taken apart (docs/REPLAY.md, "Input").
 use models::Afi;
 use models::AsnLength;
-use peer::BmpPeerType;
+use peer_type::BmpPeerType;
 use wire::View;
 ghost use mathlib.Core.Path.{_≡_};
 ghost use Prim.Native.Nat.{_/_, _%_, _≤_};

@@ -7,13 +7,13 @@ use lib.Dec.{lit<}
 use lib.ListN.{length, drop, set}
 use Rattle.wire.specs.Number as Number
 use Rattle.wire.specs.Bytes.{be, Bytes, numAt}
-use Rattle.wire.specs.Read.{refusal}
+use Rattle.wire.specs.Refusal.{refusal}
 use Rattle.wire.specs.Tlv.{putTlv, GoodTlv}
 use Rattle.wire.specs.Tlv as Wire
 use Rattle.wire.specs.TlvAt.{tlvOf}
 use Rattle.wire.specs.Walk.{stop, item}
 use Rattle.wire.specs.declared.Refusal.{Refusal}
-use Rattle.wire.specs.declared.Cursor.{Cursor}
+use Rattle.cursor.specs.declared.Cursor.{Cursor}
 use Rattle.wire.proofs.Bytes.{num-lt}
 use Rattle.wire.proofs.Tlv.{tlv-length, tlv-there, tlv-join, tlv-rest, tlv-parts, coded-join, coded-parts}
 use Rattle.wire.proofs.Walk.{Takes, Faults, Laws, Tails, onwards, turn, onwards-bad}

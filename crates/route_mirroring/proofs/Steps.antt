@@ -10,12 +10,13 @@ use lib.Dec.{leb, ltb, eqb}
 use lib.ListN.{length, drop, length-drop}
 use Rattle.wire.specs.Number as Number
 use Rattle.wire.specs.Bytes.{pick, numAt}
-use Rattle.wire.specs.Read.{refusal, cutAt, cursor}
+use Rattle.wire.specs.Refusal.{refusal, cutAt}
+use Rattle.cursor.specs.Read.{cursor}
 use Rattle.wire.specs.View.{view}
 use Rattle.wire.specs.Walk as Walk
 use Rattle.wire.specs.Walk.{stop, bad, item, from}
 use Rattle.wire.specs.declared.Refusal.{Refusal}
-use Rattle.wire.specs.declared.Cursor.{Cursor}
+use Rattle.cursor.specs.declared.Cursor.{Cursor}
 use Rattle.route_mirroring.specs.Grammar.{Tlv}
 use Rattle.route_mirroring.specs.Shown.{infoOf, sizeOf, entry}
 use Rattle.route_mirroring.specs.Read.{messageOf, informationOf, messageStep, informationStep, step, told, stepAt}

@@ -5,7 +5,8 @@ use lib.ListN.{length, drop}
 use lib.Dec.{leb, ltb, eqb}
 use Rattle.wire.specs.Number as Number
 use Rattle.wire.specs.Bytes.{pick, numAt}
-use Rattle.wire.specs.Read.{refusal, cutAt, cursor}
+use Rattle.wire.specs.Refusal.{refusal, cutAt}
+use Rattle.cursor.specs.Read.{cursor}
 use Rattle.wire.specs.TlvAt.{tlvOf}
 use Rattle.wire.specs.Walk as Walk
 use Rattle.wire.specs.Walk.{stop, bad, item, from, Kit, Out, good, refused, readFrom}

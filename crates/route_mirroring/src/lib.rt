@@ -1,6 +1,6 @@
 // The body of a BMP Route Mirroring message (RFC 7854, section 4.7), behind the per-peer header.
-use wire::Cursor;
-use wire::ReadU16;
+use cursor::Cursor;
+use cursor::ReadU16;
 use wire::Refusal;
 use wire::View;
 use writing::WriteAnswer;
@@ -10,7 +10,7 @@ ghost use Prim.Native.Nat.{_+_, _≤_};
 ghost use lib.ListN.{length, drop};
 ghost use lib.Seq.{sets};
 ghost use Rattle.wire.specs.Bytes.{numAt};
-ghost use Rattle.wire.specs.Read.{refusal};
+ghost use Rattle.wire.specs.Refusal.{refusal};
 ghost use Rattle.writing.specs.Write.{putAt, writeAnswer, written};
 ghost use Rattle.writing.specs.Table.{sizes};
 ghost use Rattle.route_mirroring.specs.Shown.{infoOf, codeOf, zeroTlv, refusedAnswer};

@@ -10,13 +10,13 @@ use lib.ListN.{length, take, drop, length-append}
 use lib.Seq.{take-at, drop-at, drop-drop}
 use Rattle.wire.specs.Number as Number
 use Rattle.wire.specs.Bytes.{pick, be, value, numAt, Bytes}
-use Rattle.wire.specs.Read.{refusal, cutAt}
+use Rattle.wire.specs.Refusal.{refusal, cutAt}
 use Rattle.wire.specs.View.{inside}
 use Rattle.wire.specs.declared.View.{View}
 use Rattle.wire.proofs.Bytes.{value-be, num-lt, num-back, part-back, bytes-take, bytes-drop}
 use Rattle.wire.proofs.Views.{length-part}
 use Rattle.models.specs.declared.AsnLength.{AsnLength}
-use Rattle.peer.specs.declared.BmpPeerType.{BmpPeerType}
+use Rattle.peer_type.specs.declared.BmpPeerType.{BmpPeerType}
 use Rattle.route_monitoring.specs.Grammar.{Reading, join, Good}
 use Rattle.route_monitoring.specs.Shown.{goodOf, refusalOf}
 use Rattle.route_monitoring.specs.Read.{partsOf, readRouteMonitoring}

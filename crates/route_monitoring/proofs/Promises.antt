@@ -17,7 +17,7 @@ use Rattle.writing.specs.declared.WriteAnswer.{WriteAnswer}
 use Rattle.writing.specs.declared.WriteAnswer.the-variants.{Written}
 use Rattle.writing.proofs.Answers.{front}
 use Rattle.models.specs.declared.AsnLength.{AsnLength}
-use Rattle.peer.specs.declared.BmpPeerType.{BmpPeerType}
+use Rattle.peer_type.specs.declared.BmpPeerType.{BmpPeerType}
 use Rattle.route_monitoring.specs.Grammar.{Reading, join, Good}
 use Rattle.route_monitoring.specs.Shown.{goodOf, shown, refusalOf, stopOf, messageOf, grammar}
 use Rattle.route_monitoring.specs.Read.{partsOf, readRouteMonitoring, reader}

@@ -5,10 +5,10 @@ use lib.ListN.{length, take, drop}
 use lib.Dec.{ltb}
 use Rattle.wire.specs.Number as Number
 use Rattle.wire.specs.Bytes.{pick, numAt}
-use Rattle.wire.specs.Read.{refusal, cutAt}
+use Rattle.wire.specs.Refusal.{refusal, cutAt}
 use Rattle.wire.specs.Exactly.{Reader}
 use Rattle.models.specs.declared.AsnLength.{AsnLength}
-use Rattle.peer.specs.declared.BmpPeerType.{BmpPeerType}
+use Rattle.peer_type.specs.declared.BmpPeerType.{BmpPeerType}
 use Rattle.route_monitoring.specs.Grammar.{Reading}
 use Rattle.route_monitoring.specs.Shown.{goodOf, grammar, shown, refusalOf}
 use Rattle.route_monitoring.specs.declared.RouteMonitoringAnswer.{RouteMonitoringAnswer}

@@ -1,12 +1,12 @@
 -- How a reading is shown in the answer, and what each answer says.
 use Prim.Native.Nat.{ℕ, _+_}
 use lib.ListN.{length}
-use Rattle.wire.specs.Read.{noRefusal}
+use Rattle.wire.specs.Refusal.{noRefusal}
 use Rattle.wire.specs.View.{view}
 use Rattle.wire.specs.declared.Refusal.{Refusal}
 use Rattle.wire.specs.Exactly.{Grammar, noTable}
 use Rattle.models.specs.declared.AsnLength.{AsnLength}
-use Rattle.peer.specs.declared.BmpPeerType.{BmpPeerType}
+use Rattle.peer_type.specs.declared.BmpPeerType.{BmpPeerType}
 use Rattle.route_monitoring.specs.Grammar.{Reading, join, Good}
 use Rattle.route_monitoring.specs.Warnings.{warningsOf}
 use Rattle.route_monitoring.specs.declared.RouteMonitoring.{RouteMonitoring}

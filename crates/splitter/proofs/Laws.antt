@@ -9,7 +9,7 @@ use lib.ListN.{length, take, drop, take-append-drop}
 use lib.Seq.{take-at, drop-at}
 use Rattle.wire.specs.Number as Number
 use Rattle.wire.specs.Bytes.{pick}
-use Rattle.wire.specs.Read.{refusal, cutAt}
+use Rattle.wire.specs.Refusal.{refusal, cutAt}
 use Rattle.wire.specs.View.{view}
 use Rattle.common_header.specs.Grammar as Header
 use Rattle.common_header.specs.Shown as HeaderShown

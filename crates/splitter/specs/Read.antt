@@ -5,7 +5,7 @@ use lib.ListN.{length}
 use lib.Dec.{ltb}
 use Rattle.wire.specs.Number as Number
 use Rattle.wire.specs.Bytes.{pick}
-use Rattle.wire.specs.Read.{refusal, cutAt}
+use Rattle.wire.specs.Refusal.{refusal, cutAt}
 use Rattle.wire.specs.View.{view}
 use Rattle.wire.specs.Exactly.{Reader}
 use Rattle.splitter.specs.Shown.{grammar, shown, refusalOf}

@@ -1,6 +1,6 @@
 -- How a reading is shown in the answer, and what each answer says.
 use Prim.Native.Nat.{ℕ, _+_}
-use Rattle.wire.specs.Read.{noRefusal}
+use Rattle.wire.specs.Refusal.{noRefusal}
 use Rattle.wire.specs.View.{view}
 use Rattle.wire.specs.declared.Refusal.{Refusal}
 use Rattle.wire.specs.declared.View.{View}

@@ -4,7 +4,7 @@ use common_header::CommonHeaderAnswer;
 use wire::Refusal;
 use wire::View;
 ghost use mathlib.Core.Path.{_≡_};
-ghost use Rattle.wire.specs.Read.{refusal};
+ghost use Rattle.wire.specs.Refusal.{refusal};
 ghost use Rattle.splitter.specs.declared.SplitAnswer.{SplitAnswer};
 ghost use Rattle.splitter.specs.Read.{judged, splitOf};
 

@@ -9,10 +9,11 @@ use borrow.Author.Tests.{eqb-true, eqb-false, ne-eqb, leb-true, leb-false, le-le
 use lib.Dec.{eqb}
 use lib.ListN.{length, take, drop}
 use Rattle.wire.specs.Bytes.{be, pick, has, numAt, Bytes}
-use Rattle.wire.specs.Read.{cutAt, cursor}
+use Rattle.wire.specs.Refusal.{cutAt}
+use Rattle.cursor.specs.Read.{cursor}
 use Rattle.wire.specs.View.{view, viewed}
 use Rattle.wire.specs.declared.Refusal.{Refusal}
-use Rattle.wire.specs.declared.Cursor.{Cursor}
+use Rattle.cursor.specs.declared.Cursor.{Cursor}
 use Rattle.wire.proofs.Bytes.{value-be, num-lt, num-back, num-last, num-part}
 use Rattle.stats_data.specs.Grammar.{Value, counter, gauge, afi-safi-gauge, raw, valueBytes, GoodValue}
 use Rattle.stats_data.specs.Shown.{dataAt}

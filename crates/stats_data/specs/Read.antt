@@ -4,7 +4,8 @@ use mathlib.Core.List.{List}
 use lib.ListN.{take, drop}
 use lib.Dec.{eqb}
 use Rattle.wire.specs.Bytes.{pick, has, numAt}
-use Rattle.wire.specs.Read.{cutAt, cursor}
+use Rattle.wire.specs.Refusal.{cutAt}
+use Rattle.cursor.specs.Read.{cursor}
 use Rattle.stats_data.specs.Grammar.{Value, counter, gauge, afi-safi-gauge, raw}
 use Rattle.stats_data.specs.Shown.{dataAt}
 use Rattle.stats_data.specs.declared.StatsData.{StatsData}

@@ -1,9 +1,9 @@
 // The value of a statistics record (RFC 7854, section 4.8), by its length alone: the type has no say.
-use wire::Cursor;
-use wire::ReadU8;
-use wire::ReadU16;
-use wire::ReadU32;
-use wire::ReadU64;
+use cursor::Cursor;
+use cursor::ReadU8;
+use cursor::ReadU16;
+use cursor::ReadU32;
+use cursor::ReadU64;
 use wire::Refusal;
 use wire::View;
 ghost use mathlib.Core.Path.{_≡_};

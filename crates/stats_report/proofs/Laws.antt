@@ -7,13 +7,13 @@ use borrow.Author.Tests.{le-ltb, le-leb, lt-leb}
 use lib.ListN.{length, drop, set}
 use Rattle.wire.specs.Number as Number
 use Rattle.wire.specs.Bytes.{numAt}
-use Rattle.wire.specs.Read.{refusal, cutAt}
+use Rattle.wire.specs.Refusal.{refusal, cutAt}
 use Rattle.wire.specs.Tlv.{Tlv, putTlv, GoodTlv}
 use Rattle.wire.specs.TlvAt.{tlvOf}
 use Rattle.wire.specs.Walk.{item, resume, readFrom}
 use Rattle.wire.specs.declared.Refusal.{Refusal}
-use Rattle.wire.specs.declared.Cursor.{Cursor}
-use Rattle.wire.proofs.Reading.{Was}
+use Rattle.cursor.specs.declared.Cursor.{Cursor}
+use Rattle.cursor.proofs.Reading.{Was}
 use Rattle.wire.proofs.Tlv.{tlv-length, tlv-there, tlv-join, tlv-rest, tlv-parts}
 use Rattle.wire.proofs.Walk.{Takes, Faults, Never, Laws, resume-bad, resume-full, resume-room}
 use Rattle.stats_data.proofs.Values.{value-back, value-forth}

@@ -6,9 +6,9 @@ use native.Mathlib.Omega.{arith}
 use lib.ListN.{length, drop}
 use Rattle.wire.specs.Number as Number
 use Rattle.wire.specs.Bytes.{be, value, numAt}
-use Rattle.wire.specs.Read.{cursor}
+use Rattle.cursor.specs.Read.{cursor}
 use Rattle.wire.proofs.Bytes.{value-be}
-use Rattle.wire.proofs.Reading.{Was}
+use Rattle.cursor.proofs.Reading.{Was}
 use Rattle.wire.proofs.Tlv.{tlv-viewed}
 use Rattle.wire.proofs.Walk as Walk
 use Rattle.stats_data.specs.Write.{valueIn}

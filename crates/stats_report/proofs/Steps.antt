@@ -10,12 +10,12 @@ use lib.Dec.{ltb}
 use lib.ListN.{length, take, drop, length-drop}
 use lib.Seq.{drop-drop}
 use Rattle.wire.specs.Bytes.{pick, numAt}
-use Rattle.wire.specs.Read.{cutAt}
+use Rattle.wire.specs.Refusal.{cutAt}
 use Rattle.wire.specs.TlvAt.{tlvOf}
 use Rattle.wire.specs.Walk as Walk
 use Rattle.wire.specs.Walk.{stop, bad, item, from}
 use Rattle.wire.specs.declared.Refusal.{Refusal}
-use Rattle.wire.specs.declared.Cursor.{Cursor}
+use Rattle.cursor.specs.declared.Cursor.{Cursor}
 use Rattle.stats_type.specs.Shown.{typeOf}
 use Rattle.stats_report.specs.Grammar.{Stat}
 use Rattle.stats_report.specs.Shown.{sizeOf, entry}

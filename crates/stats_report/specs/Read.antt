@@ -5,7 +5,8 @@ use lib.ListN.{length, drop}
 use lib.Dec.{ltb}
 use Rattle.wire.specs.Number as Number
 use Rattle.wire.specs.Bytes.{pick, has, numAt}
-use Rattle.wire.specs.Read.{refusal, noRefusal, cutAt, cursor}
+use Rattle.wire.specs.Refusal.{refusal, noRefusal, cutAt}
+use Rattle.cursor.specs.Read.{cursor}
 use Rattle.wire.specs.Tlv.{Tlv}
 use Rattle.wire.specs.TlvAt.{tlvOf}
 use Rattle.wire.specs.Walk as Walk

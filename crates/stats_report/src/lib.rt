@@ -1,10 +1,10 @@
 // The body of a BMP Statistics Report (RFC 7854, section 4.8).
+use cursor::Cursor;
+use cursor::ReadU16;
+use cursor::ReadU32;
 use stats_data::ReadData;
 use stats_data::StatsData;
 use stats_type::StatType;
-use wire::Cursor;
-use wire::ReadU16;
-use wire::ReadU32;
 use wire::Refusal;
 use writing::WriteAnswer;
 ghost use mathlib.Core.Path.{_≡_};
@@ -12,7 +12,7 @@ ghost use mathlib.Core.Bool.{true};
 ghost use Prim.Native.Nat.{_+_, _≤_};
 ghost use lib.ListN.{length};
 ghost use lib.Seq.{sets};
-ghost use Rattle.wire.specs.Read.{refusal};
+ghost use Rattle.wire.specs.Refusal.{refusal};
 ghost use Rattle.wire.specs.Walk.{readFrom};
 ghost use Rattle.writing.specs.Write.{putAt, writeAnswer, written};
 ghost use Rattle.writing.specs.Table.{sizes};

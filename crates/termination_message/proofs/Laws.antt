@@ -14,7 +14,7 @@ use Rattle.wire.specs.Tlv.{putTlv, GoodTlv, Tail, short, oversized, putTail}
 use Rattle.wire.specs.TlvAt.{tailOf}
 use Rattle.wire.specs.Walk.{item}
 use Rattle.wire.specs.declared.Refusal.{Refusal}
-use Rattle.wire.specs.declared.Cursor.{Cursor}
+use Rattle.cursor.specs.declared.Cursor.{Cursor}
 use Rattle.wire.proofs.Bytes.{value-be, num-lt}
 use Rattle.wire.proofs.Tlv.{tlv-there, tlv-join, tlv-rest, tlv-parts, tail-none, tail-join, tail-parts, coded-join, coded-length, coded-rest, coded-parts}
 use Rattle.wire.proofs.Walk.{Takes, Faults, Laws, Tails, TurnTo, turn-to, onwards-bad, onwards}

@@ -5,7 +5,8 @@ use lib.ListN.{length, take, drop}
 use lib.Dec.{leb, ltb, eqb}
 use Rattle.wire.specs.Number as Number
 use Rattle.wire.specs.Bytes.{pick, numAt}
-use Rattle.wire.specs.Read.{refusal, cutAt, cursor}
+use Rattle.wire.specs.Refusal.{refusal, cutAt}
+use Rattle.cursor.specs.Read.{cursor}
 use Rattle.wire.specs.Tlv.{stopAt}
 use Rattle.wire.specs.TlvAt.{tailOf}
 use Rattle.wire.specs.Walk as Walk

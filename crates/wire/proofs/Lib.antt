@@ -1,5 +1,4 @@
 pub mod Bytes
-pub mod Reading
 pub mod Views
 pub mod Tlv
 pub mod Walk

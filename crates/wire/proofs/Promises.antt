@@ -6,7 +6,7 @@ use Prim.Native.Nat.{ℕ, _-_, _^_, _<_}
 use borrow.Author.Tests.{leb-true, leb-false}
 use lib.ListN.{length, take, drop}
 use Rattle.wire.specs.Bytes.{be, value, Bytes, numberAt}
-use Rattle.wire.specs.Read.{Read, read, cutAt}
+use Rattle.wire.specs.Refusal.{cutAt}
 use Rattle.wire.specs.View.{inside, viewed}
 use Rattle.wire.specs.declared.Refusal.{Refusal}
 use Rattle.wire.specs.declared.View.{View}
@@ -26,12 +26,6 @@ left-determined s at r q = determined
 -- Two answers of u8_at, u16_at, u32_at or u64_at (w is 1, 2, 4 or 8) for the same bytes and place are equal.
 pub number-determined : (w : ℕ) (s : List ℕ) (at r q : ℕ) → r ≡ numberAt w s at → q ≡ numberAt w s at → r ≡ q
 number-determined w s at r q = determined
-
--- Two answers of Cursor::read_u8, read_u16, read_u32 or read_u64 (w is 1, 2, 4 or 8 and form is asU8, asU16, asU32 or asU64)
--- for the same bytes and place are equal.
-pub read-determined : {R : Type 0} (form : Read → R) (w : ℕ) (s : List ℕ) (at : ℕ) (r q : R)
-    → r ≡ form (read w s at) → q ≡ form (read w s at) → r ≡ q
-read-determined form w s at r q = determined
 
 -- Two answers of View::is_inside for the same view and length are equal.
 pub is-inside-determined : (v : View) (room : ℕ) (r q : Bool) → r ≡ inside room v → q ≡ inside room v → r ≡ q

@@ -12,7 +12,7 @@ use lib.ListN.{length, drop, set, replicate, length-drop, length-append}
 use lib.Seq.{drop-drop, set-at}
 use Rattle.wire.specs.Number as Number
 use Rattle.wire.specs.Bytes.{Bytes}
-use Rattle.wire.specs.Read.{refusal}
+use Rattle.wire.specs.Refusal.{refusal}
 use Rattle.wire.specs.Parts.{joinAll, EachGood, shownFrom, endFrom, AllAt}
 use Rattle.wire.specs.Walk.{Step, stop, bad, item, End, tail, fault, Walked, Kit, next, walk, Out, good, refused, from, fill, resume, readFrom, shows}
 use Rattle.wire.specs.declared.Refusal.{Refusal}

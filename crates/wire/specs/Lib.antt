@@ -1,6 +1,6 @@
 pub mod Number
 pub mod Bytes
-pub mod Read
+pub mod Refusal
 pub mod View
 pub mod Parts
 pub mod Tlv

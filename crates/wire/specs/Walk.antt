@@ -5,7 +5,7 @@ use lib.ListN.{length, drop, set, replicate}
 use lib.Dec.{leb}
 use Rattle.wire.specs.Number as Number
 use Rattle.wire.specs.Bytes.{pick}
-use Rattle.wire.specs.Read.{refusal}
+use Rattle.wire.specs.Refusal.{refusal}
 use Rattle.wire.specs.Parts.{shownFrom, endFrom}
 use Rattle.wire.specs.declared.Refusal.{Refusal}
 

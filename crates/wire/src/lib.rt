@@ -3,7 +3,7 @@ ghost use mathlib.Core.Path.{_≡_};
 ghost use Prim.Native.Nat.{_-_};
 ghost use lib.ListN.{length};
 ghost use Rattle.wire.specs.Bytes.{numberAt};
-ghost use Rattle.wire.specs.Read.{cutAt, read, asU8, asU16, asU32, asU64};
+ghost use Rattle.wire.specs.Refusal.{cutAt};
 ghost use Rattle.wire.specs.View.{inside, viewed};
 
 // The numbers that answers carry (docs/RULES.md, "Numbers").
@@ -46,31 +46,6 @@ pub struct Refusal {
 pub struct View {
     pub place: usize,
     pub length: usize,
-}
-
-// The place of the next byte to be read.
-pub struct Cursor {
-    pub at: usize,
-}
-
-pub enum ReadU8 {
-    Good(u8, Cursor),
-    Cut(Refusal),
-}
-
-pub enum ReadU16 {
-    Good(u16, Cursor),
-    Cut(Refusal),
-}
-
-pub enum ReadU32 {
-    Good(u32, Cursor),
-    Cut(Refusal),
-}
-
-pub enum ReadU64 {
-    Good(u64, Cursor),
-    Cut(Refusal),
 }
 
 // Every Cut is made here, so that a Cut that tells more changes one place.
@@ -125,48 +100,6 @@ pub fn u64_at(s: &[u8], at: usize) -> u64
         return 0;
     }
     (u32_at(s, at) as u64) * 4_294_967_296 + (u32_at(s, at + 4) as u64)
-}
-
-impl Cursor {
-    pub fn read_u8(self, s: &[u8]) -> ReadU8
-        ensures { λ r. ⌜ r ≡ asU8 (read 1 (now (s .entry)) (self .at)) ⌝ }
-    {
-        let at = self.at;
-        if left(s, at) < 1 {
-            return ReadU8::Cut(cut_at(at));
-        }
-        ReadU8::Good(u8_at(s, at), Cursor { at: at + 1 })
-    }
-
-    pub fn read_u16(self, s: &[u8]) -> ReadU16
-        ensures { λ r. ⌜ r ≡ asU16 (read 2 (now (s .entry)) (self .at)) ⌝ }
-    {
-        let at = self.at;
-        if left(s, at) < 2 {
-            return ReadU16::Cut(cut_at(at));
-        }
-        ReadU16::Good(u16_at(s, at), Cursor { at: at + 2 })
-    }
-
-    pub fn read_u32(self, s: &[u8]) -> ReadU32
-        ensures { λ r. ⌜ r ≡ asU32 (read 4 (now (s .entry)) (self .at)) ⌝ }
-    {
-        let at = self.at;
-        if left(s, at) < 4 {
-            return ReadU32::Cut(cut_at(at));
-        }
-        ReadU32::Good(u32_at(s, at), Cursor { at: at + 4 })
-    }
-
-    pub fn read_u64(self, s: &[u8]) -> ReadU64
-        ensures { λ r. ⌜ r ≡ asU64 (read 8 (now (s .entry)) (self .at)) ⌝ }
-    {
-        let at = self.at;
-        if left(s, at) < 8 {
-            return ReadU64::Cut(cut_at(at));
-        }
-        ReadU64::Good(u64_at(s, at), Cursor { at: at + 8 })
-    }
 }
 
 impl View {

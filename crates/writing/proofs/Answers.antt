@@ -11,7 +11,7 @@ use lib.ListN.{length, take, drop}
 use lib.Seq.{sets, sets-eq, take-at}
 use Rattle.wire.specs.Number as Number
 use Rattle.wire.specs.Bytes.{pick}
-use Rattle.wire.specs.Read.{refusal}
+use Rattle.wire.specs.Refusal.{refusal}
 use Rattle.writing.specs.Write.{lengthOf, writeAnswer, after, written}
 use Rattle.wire.specs.declared.Refusal.{Refusal}
 use Rattle.writing.specs.declared.WriteAnswer.{WriteAnswer}

@@ -9,7 +9,7 @@ use borrow.Author.Tests.{lt-ltb, le-ltb}
 use lib.ListN.{length, take, drop}
 use lib.Seq.{sets-eq, drop-at}
 use Rattle.wire.specs.Number as Number
-use Rattle.wire.specs.Read.{refusal}
+use Rattle.wire.specs.Refusal.{refusal}
 use Rattle.wire.specs.declared.View.{View}
 use Rattle.wire.proofs.Determined.{determined}
 use Rattle.writing.specs.Write.{putAt, tlvFits, refusalOf, lengthOf, writeAnswer, after, written}

@@ -7,7 +7,7 @@ use lib.Seq.{sets}
 use lib.Dec.{ltb, eqb}
 use Rattle.wire.specs.Number as Number
 use Rattle.wire.specs.Bytes.{pick, has, be}
-use Rattle.wire.specs.Read.{refusal, noRefusal}
+use Rattle.wire.specs.Refusal.{refusal, noRefusal}
 use Rattle.wire.specs.View.{inside}
 use Rattle.wire.specs.declared.Refusal.{Refusal}
 use Rattle.wire.specs.declared.View.{View}

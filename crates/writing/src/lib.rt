@@ -3,7 +3,7 @@ use wire::Refusal;
 use wire::View;
 ghost use mathlib.Core.Path.{_≡_};
 ghost use Rattle.wire.specs.Bytes.{be};
-ghost use Rattle.wire.specs.Read.{refusal};
+ghost use Rattle.wire.specs.Refusal.{refusal};
 ghost use Rattle.writing.specs.Write.{putAt, tlvBytes, tlvFits, writeAnswer};
 ghost use Rattle.writing.specs.declared.WriteAnswer.the-variants.{Refused};
 

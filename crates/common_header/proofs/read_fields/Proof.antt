@@ -4,7 +4,7 @@ use mathlib.Core.Path.{_≡_, sym, ap, ap₂, _∙_, subst}
 use Prim.Native.Nat.{ℕ}
 use Rattle.common_header.proofs.Fields.{no-version, other-version, no-length, no-kind, whole}
 use Rattle.wire.specs.Bytes.{numAt}
-use Rattle.wire.proofs.Reading.{Was, was-got, was-cut, told8, told32, tells8, tells32}
+use Rattle.cursor.proofs.Reading.{Was, was-got, was-cut, told8, told32, tells8, tells32}
 use Rattle.common_header.proofs.read_fields.Statement.{statement}
 use Rattle.common_header.proofs.read_fields.Tie as tie
 use Rattle.common_header.specs.declared.CommonFields.{CommonFields}

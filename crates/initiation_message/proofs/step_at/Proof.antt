@@ -7,7 +7,7 @@ use lib.ListN.{drop}
 use native.Mathlib.Nat.{add-zero}
 use Rattle.initiation_message.proofs.Steps.{brief-at, beyond-at, whole-at}
 use Rattle.wire.specs.Bytes.{numAt}
-use Rattle.wire.proofs.Reading.{Was, was-got, was-cut, was-in, told16, tells16}
+use Rattle.cursor.proofs.Reading.{Was, was-got, was-cut, was-in, told16, tells16}
 use Rattle.initiation_message.proofs.step_at.Statement.{statement}
 use Rattle.initiation_message.proofs.step_at.Tie as tie
 

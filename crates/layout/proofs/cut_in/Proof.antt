@@ -5,7 +5,7 @@ use Prim.Native.Nat.{_-_, _≤_}
 use lib.ListN.{length, drop}
 use Rattle.layout.specs.Layout.{firstCut}
 use Rattle.layout.proofs.Cuts.{outside, cut, whole, ended}
-use Rattle.wire.specs.Read.{cutAt}
+use Rattle.wire.specs.Refusal.{cutAt}
 use Rattle.layout.proofs.cut_in.Statement.{statement}
 use Rattle.layout.proofs.cut_in.Tie as tie
 

@@ -5,7 +5,7 @@ use mathlib.Core.Path.{sym, ap, _∙_}
 use Prim.Native.Nat.{_-_}
 use lib.ListN.{length}
 use Rattle.peer_down_notification.specs.Read.{goodOf}
-use Rattle.wire.proofs.Reading.{Was, was-got, was-cut, told8, tells8}
+use Rattle.cursor.proofs.Reading.{Was, was-got, was-cut, told8, tells8}
 use Rattle.peer_down_notification.proofs.parse_peer_down_notification.Statement.{statement}
 use Rattle.peer_down_notification.proofs.parse_peer_down_notification.Tie as tie
 use Rattle.wire.specs.Number as Number

@@ -9,9 +9,9 @@ use Rattle.peer_up_notification.specs.declared.PeerUpTlvType.{PeerUpTlvT
 use Rattle.peer_up_notification.specs.declared.Step.the-variants.{Bad, Whole}
 use Rattle.peer_up_notification.proofs.Steps.{brief-at, cut-at, whole-at}
 use Rattle.wire.specs.Bytes.{numAt}
-use Rattle.wire.specs.Read.{cursor}
+use Rattle.cursor.specs.Read.{cursor}
 use Rattle.wire.specs.View.{view}
-use Rattle.wire.proofs.Reading.{Was, was-got, was-cut, was-in, told16, tells16}
+use Rattle.cursor.proofs.Reading.{Was, was-got, was-cut, was-in, told16, tells16}
 use Rattle.peer_up_notification.proofs.step_at.Statement.{statement}
 use Rattle.peer_up_notification.proofs.step_at.Tie as tie
 

@@ -7,11 +7,11 @@ use lib.ListN.{length, take, drop}
 use lib.Dec.{lit≤}
 use Rattle.per_peer_header.specs.Read.{addressField, asField}
 use Rattle.per_peer_header.specs.Shown.{shownAddress, shownAsn}
-use Rattle.peer.specs.Peer.{typeOf}
+use Rattle.peer_type.specs.Peer.{typeOf}
 use Rattle.per_peer_header.specs.Warnings.{warningsOf, warnings}
 use Rattle.per_peer_header.proofs.Fields.{there, address-there, address-bytes}
 use Rattle.wire.specs.Bytes.{numAt}
-use Rattle.wire.specs.Read.{refusal, noRefusal}
+use Rattle.wire.specs.Refusal.{refusal, noRefusal}
 use Rattle.models.specs.Time.{timeOf}
 use Rattle.per_peer_header.proofs.read_header.Statement.{statement}
 use Rattle.per_peer_header.proofs.read_header.Tie as tie

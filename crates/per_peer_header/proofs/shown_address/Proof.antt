@@ -1,7 +1,7 @@
 use borrow.Author.Needs.{needs}
 use borrow.Author.Tests.{eq-eqb, ne-eqb}
 use mathlib.Core.Path.{sym, _∙_}
-use Rattle.peer.proofs.Told.{ipv6-flag, ipv4-flag}
+use Rattle.peer_type.proofs.Told.{ipv6-flag, ipv4-flag}
 use Rattle.per_peer_header.proofs.shown_address.Statement.{statement}
 use Rattle.per_peer_header.proofs.shown_address.Tie as tie
 

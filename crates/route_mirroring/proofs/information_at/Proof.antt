@@ -4,7 +4,7 @@ use mathlib.Core.Path.{_≡_, sym, ap, _∙_}
 use lib.ListN.{drop}
 use Rattle.route_mirroring.proofs.Steps.{short-at, unknown-at, information-there}
 use Rattle.wire.specs.Bytes.{numAt}
-use Rattle.wire.proofs.Reading.{Was, was-got, was-cut, was-in, told16, tells16}
+use Rattle.cursor.proofs.Reading.{Was, was-got, was-cut, was-in, told16, tells16}
 use Rattle.route_mirroring.proofs.information_at.Statement.{statement}
 use Rattle.route_mirroring.proofs.information_at.Tie as tie
 use Rattle.route_mirroring.specs.declared.Step.the-variants.{Bad}

@@ -7,7 +7,7 @@ use lib.ListN.{drop}
 use native.Mathlib.Nat.{add-zero}
 use Rattle.route_mirroring.proofs.Steps.{brief-at, strange-at, message-at, information-at}
 use Rattle.wire.specs.Bytes.{numAt}
-use Rattle.wire.proofs.Reading.{Was, was-got, was-cut, was-in, told16, tells16}
+use Rattle.cursor.proofs.Reading.{Was, was-got, was-cut, was-in, told16, tells16}
 use Rattle.route_mirroring.proofs.step_at.Statement.{statement}
 use Rattle.route_mirroring.proofs.step_at.Tie as tie
 use Rattle.route_mirroring.specs.declared.Step.the-variants.{Bad}

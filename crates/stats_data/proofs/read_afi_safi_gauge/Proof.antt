@@ -5,7 +5,7 @@ use mathlib.Core.Path.{_≡_, ap, _∙_}
 use Prim.Native.Nat.{_+_}
 use Rattle.stats_data.proofs.Values.{data-good, data-cut}
 use Rattle.wire.specs.Bytes.{numAt}
-use Rattle.wire.proofs.Reading.{Was, was-got, was-cut, told8, told16, told64, tells8, tells16, tells64}
+use Rattle.cursor.proofs.Reading.{Was, was-got, was-cut, told8, told16, told64, tells8, tells16, tells64}
 use Rattle.stats_data.proofs.read_afi_safi_gauge.Statement.{statement}
 use Rattle.stats_data.proofs.read_afi_safi_gauge.Tie as tie
 use Rattle.stats_data.specs.declared.StatsData.the-variants.{AfiSafiGauge}

@@ -5,7 +5,7 @@ use mathlib.Core.Path.{sym, ap, _∙_}
 use lib.ListN.{length}
 use Rattle.stats_report.specs.Shown.{refusedAnswer}
 use Rattle.stats_report.proofs.Laws.{no-count, counted}
-use Rattle.wire.proofs.Reading.{was-got, was-cut, told32, tells32}
+use Rattle.cursor.proofs.Reading.{was-got, was-cut, told32, tells32}
 use Rattle.stats_report.proofs.parse_stats_report.Statement.{statement}
 use Rattle.stats_report.proofs.parse_stats_report.Tie as tie
 use Rattle.wire.specs.Number as Number

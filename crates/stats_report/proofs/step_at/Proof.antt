@@ -7,7 +7,7 @@ use lib.ListN.{length, drop}
 use native.Mathlib.Nat.{add-zero}
 use Rattle.stats_report.proofs.Steps.{no-type-at, no-length-at, no-value-at, whole-at}
 use Rattle.wire.specs.Bytes.{numAt}
-use Rattle.wire.proofs.Reading.{Was, was-got, was-cut, was-in, told16, tells16}
+use Rattle.cursor.proofs.Reading.{Was, was-got, was-cut, was-in, told16, tells16}
 use Rattle.stats_data.proofs.Values.{no-data}
 use Rattle.stats_report.proofs.step_at.Statement.{statement}
 use Rattle.stats_report.proofs.step_at.Tie as tie

@@ -7,8 +7,8 @@ use lib.ListN.{drop}
 use native.Mathlib.Nat.{add-zero}
 use Rattle.termination_message.proofs.Steps.{brief-at, strange-at, beyond-at, string-at, lacking-at, unknown-at, known-at}
 use Rattle.wire.specs.Bytes.{numAt}
-use Rattle.wire.specs.Read.{cursor}
-use Rattle.wire.proofs.Reading.{Was, was-got, was-cut, was-in, told16, tells16}
+use Rattle.cursor.specs.Read.{cursor}
+use Rattle.cursor.proofs.Reading.{Was, was-got, was-cut, was-in, told16, tells16}
 use Rattle.termination_message.proofs.step_at.Statement.{statement}
 use Rattle.termination_message.proofs.step_at.Tie as tie
 use Rattle.termination_message.specs.declared.TerminationTlv.{TerminationTlv}

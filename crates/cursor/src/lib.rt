@@ -1,0 +1,71 @@
+// Reading numbers one after another: each read hands back the number and the next place.
+use wire::Refusal;
+ghost use mathlib.Core.Path.{_≡_};
+ghost use Rattle.cursor.specs.Read.{read, asU8, asU16, asU32, asU64};
+
+// The place of the next byte to be read.
+pub struct Cursor {
+    pub at: usize,
+}
+
+pub enum ReadU8 {
+    Good(u8, Cursor),
+    Cut(Refusal),
+}
+
+pub enum ReadU16 {
+    Good(u16, Cursor),
+    Cut(Refusal),
+}
+
+pub enum ReadU32 {
+    Good(u32, Cursor),
+    Cut(Refusal),
+}
+
+pub enum ReadU64 {
+    Good(u64, Cursor),
+    Cut(Refusal),
+}
+
+impl Cursor {
+    pub fn read_u8(self, s: &[u8]) -> ReadU8
+        ensures { λ r. ⌜ r ≡ asU8 (read 1 (now (s .entry)) (self .at)) ⌝ }
+    {
+        let at = self.at;
+        if wire::left(s, at) < 1 {
+            return ReadU8::Cut(wire::cut_at(at));
+        }
+        ReadU8::Good(wire::u8_at(s, at), Cursor { at: at + 1 })
+    }
+
+    pub fn read_u16(self, s: &[u8]) -> ReadU16
+        ensures { λ r. ⌜ r ≡ asU16 (read 2 (now (s .entry)) (self .at)) ⌝ }
+    {
+        let at = self.at;
+        if wire::left(s, at) < 2 {
+            return ReadU16::Cut(wire::cut_at(at));
+        }
+        ReadU16::Good(wire::u16_at(s, at), Cursor { at: at + 2 })
+    }
+
+    pub fn read_u32(self, s: &[u8]) -> ReadU32
+        ensures { λ r. ⌜ r ≡ asU32 (read 4 (now (s .entry)) (self .at)) ⌝ }
+    {
+        let at = self.at;
+        if wire::left(s, at) < 4 {
+            return ReadU32::Cut(wire::cut_at(at));
+        }
+        ReadU32::Good(wire::u32_at(s, at), Cursor { at: at + 4 })
+    }
+
+    pub fn read_u64(self, s: &[u8]) -> ReadU64
+        ensures { λ r. ⌜ r ≡ asU64 (read 8 (now (s .entry)) (self .at)) ⌝ }
+    {
+        let at = self.at;
+        if wire::left(s, at) < 8 {
+            return ReadU64::Cut(wire::cut_at(at));
+        }
+        ReadU64::Good(wire::u64_at(s, at), Cursor { at: at + 8 })
+    }
+}

@@ -1,0 +1,35 @@
+-- What a user of the crate relies on. Assumes nothing.
+use mathlib.Core.Bool.{Bool}
+use mathlib.Core.Path.{_≡_, sym, ap, _∙_}
+use Prim.Native.Nat.{ℕ}
+use Rattle.wire.proofs.Determined.{determined}
+use Rattle.models.specs.declared.Afi.{Afi}
+use Rattle.models.specs.declared.AsnLength.{AsnLength}
+use Rattle.peer_type.specs.Peer.{kindOf, typeOf, flagL, flagO, flagF, addressFamily, asnLength}
+use Rattle.peer_type.specs.declared.BmpPeerType.{BmpPeerType}
+use Rattle.peer_type.specs.declared.PerPeerFlags.{PerPeerFlags}
+use Rattle.peer_type.proofs.Told.{named}
+
+-- Different types have different numbers.
+pub number-tells : (s t : BmpPeerType) → kindOf s ≡ kindOf t → s ≡ t
+number-tells s t e = sym (named s .0) ∙ ap typeOf e ∙ named t .0
+
+-- ---- any two answers that the contracts allow are equal
+pub number-determined : (t : BmpPeerType) (r q : ℕ) → r ≡ kindOf t → q ≡ kindOf t → r ≡ q
+number-determined t r q = determined
+
+module _ (flags : PerPeerFlags) where
+  pub address-family-determined : (r q : Afi) → r ≡ addressFamily (flags .0) → q ≡ addressFamily (flags .0) → r ≡ q
+  address-family-determined r q = determined
+
+  pub is-post-policy-determined : (r q : Bool) → r ≡ flagL (flags .0) → q ≡ flagL (flags .0) → r ≡ q
+  is-post-policy-determined r q = determined
+
+  pub flags-asn-length-determined : (r q : AsnLength) → r ≡ asnLength (flags .0) → q ≡ asnLength (flags .0) → r ≡ q
+  flags-asn-length-determined r q = determined
+
+  pub is-adj-rib-out-determined : (r q : Bool) → r ≡ flagO (flags .0) → q ≡ flagO (flags .0) → r ≡ q
+  is-adj-rib-out-determined r q = determined
+
+  pub is-filtered-determined : (r q : Bool) → r ≡ flagF (flags .0) → q ≡ flagF (flags .0) → r ≡ q
+  is-filtered-determined r q = determined

@@ -1,0 +1,81 @@
+// The type of a peer and its flags: the first two bytes of a per-peer header (RFC 7854, section 4.2; RFC 8671; RFC 9069).
+use models::Afi;
+use models::AsnLength;
+ghost use mathlib.Core.Path.{_≡_};
+ghost use Rattle.peer_type.specs.Peer.{kindOf, flagL, flagO, flagF, addressFamily, asnLength};
+
+pub enum BmpPeerType {
+    Global,
+    RD,
+    Local,
+    LocalRib,
+}
+
+// The last of the types that are known, and the one whose header is another.
+pub const LOCAL_RIB: u8 = 3;
+
+impl BmpPeerType {
+    // The number that stands for the type on the wire.
+    pub fn number(self) -> u8
+        ensures { λ r. ⌜ r ≡ kindOf self ⌝ }
+    {
+        match self {
+            BmpPeerType::Global => 0,
+            BmpPeerType::RD => 1,
+            BmpPeerType::Local => 2,
+            BmpPeerType::LocalRib => LOCAL_RIB,
+        }
+    }
+}
+
+// The flags as they stand in the header, with the bits that have no meaning. A peer of types 0 to 2 has the first four, a Loc-RIB
+// the last: what a bit means depends on the type.
+pub struct PerPeerFlags(pub u8);
+
+const ADDRESS_FAMILY_IPV6: u8 = 0b1000_0000;
+
+const IS_POST_POLICY: u8 = 0b0100_0000;
+
+const AS_SIZE_16BIT: u8 = 0b0010_0000;
+
+const IS_ADJ_RIB_OUT: u8 = 0b0001_0000;
+
+const IS_FILTERED: u8 = 0b1000_0000;
+
+impl PerPeerFlags {
+    pub fn address_family(self) -> Afi
+        ensures { λ r. ⌜ r ≡ addressFamily (self .0) ⌝ }
+    {
+        if self.0 & ADDRESS_FAMILY_IPV6 != 0 {
+            return Afi::Ipv6;
+        }
+        Afi::Ipv4
+    }
+
+    pub fn is_post_policy(self) -> bool
+        ensures { λ r. ⌜ r ≡ flagL (self .0) ⌝ }
+    {
+        self.0 & IS_POST_POLICY != 0
+    }
+
+    pub fn asn_length(self) -> AsnLength
+        ensures { λ r. ⌜ r ≡ asnLength (self .0) ⌝ }
+    {
+        if self.0 & AS_SIZE_16BIT != 0 {
+            return AsnLength::Bits16;
+        }
+        AsnLength::Bits32
+    }
+
+    pub fn is_adj_rib_out(self) -> bool
+        ensures { λ r. ⌜ r ≡ flagO (self .0) ⌝ }
+    {
+        self.0 & IS_ADJ_RIB_OUT != 0
+    }
+
+    pub fn is_filtered(self) -> bool
+        ensures { λ r. ⌜ r ≡ flagF (self .0) ⌝ }
+    {
+        self.0 & IS_FILTERED != 0
+    }
+}
