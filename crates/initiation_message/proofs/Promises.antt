@@ -23,7 +23,7 @@ use Rattle.writing.specs.declared.WriteAnswer.the-variants.{Written}
 use Rattle.writing.proofs.Answers.{front}
 use Rattle.writing.proofs.Table.{length-parts}
 use Rattle.initiation_message.specs.Grammar.{Reading, join, Good}
-use Rattle.initiation_message.specs.Shown.{zeroTlv, places, shown, grammar}
+use Rattle.initiation_message.specs.Shown.{zeroTlv, places, grammar}
 use Rattle.initiation_message.specs.Read.{kit, readInitiation, reader}
 use Rattle.initiation_message.specs.Write.{writer, kept, readingOf, bytesOf, writable}
 use Rattle.initiation_message.specs.declared.InitiationTlv.{InitiationTlv}

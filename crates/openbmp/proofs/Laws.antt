@@ -9,12 +9,12 @@ use lib.Dec.{eqb}
 use lib.ListN.{length, take, drop, length-append, length-drop, take-append-drop}
 use lib.Seq.{length-take-le, take-at, drop-at, drop-drop}
 use Rattle.wire.specs.Number as Number
-use Rattle.wire.specs.Bytes.{pick, be, value, numAt, Bytes}
+use Rattle.wire.specs.Bytes.{pick, be, value, numAt, Bytes, Octets}
 use Rattle.wire.proofs.Bytes.{value-be, num-lt, num-back, part-back, bytes-take, bytes-drop}
-use Rattle.wire.proofs.Views.{length-part}
+use Rattle.wire.proofs.Views.{octets-part}
 use Rattle.models.specs.declared.Afi.{Afi}
 use Rattle.models.specs.declared.Afi.the-variants.{Ipv4, Ipv6}
-use Rattle.openbmp.specs.Grammar.{RouterIp, ipv4, ipv6, Reading, flagsOf, routerIpBytes, joinRest, join, Exactly, RouterIpFits, bitOf, Good}
+use Rattle.openbmp.specs.Grammar.{RouterIp, ipv4, ipv6, Reading, flagsOf, routerIpBytes, joinRest, join, RouterIpFits, bitOf, Good}
 use Rattle.openbmp.specs.Read.{routerIpOf, familyOf, partsOf}
 
 -- ---- the flags and the address: joined, then taken apart
@@ -23,12 +23,12 @@ bit-small (ipv4 address skipped) = omega arith
 bit-small (ipv6 address) = omega arith
 
 length-ip : (ip : RouterIp) → RouterIpFits ip → length (routerIpBytes ip) ≡ 16
-length-ip (ipv4 address skipped) fits = length-append address skipped ∙ omega (arith, fits .0 .0, fits .1 .0)
-length-ip (ipv6 address) fits = fits .0
+length-ip (ipv4 address skipped) fits = length-append address skipped ∙ omega (arith, fits .0 .many, fits .1 .many)
+length-ip (ipv6 address) fits = fits .many
 
 ip-back : (flags : ℕ) (ip : RouterIp) → RouterIpFits ip → flags / 0x40 % 2 ≡ bitOf ip → routerIpOf (familyOf flags) (routerIpBytes ip) ≡ ip
 ip-back flags (ipv4 address skipped) fits e =
-    rw (ne-eqb (flags / 0x40 % 2) 1 (omega arith), take-at address skipped 4 (fits .0 .0), drop-at address skipped 4 (fits .0 .0))
+    rw (ne-eqb (flags / 0x40 % 2) 1 (omega arith), take-at address skipped 4 (fits .0 .many), drop-at address skipped 4 (fits .0 .many))
 ip-back flags (ipv6 address) fits e = rw (eq-eqb (flags / 0x40 % 2) 1 e)
 
 -- ---- taken apart, then joined
@@ -36,10 +36,10 @@ ip-bytes : (afi : Afi) (bytes : List ℕ) → routerIpBytes (routerIpOf afi byte
 ip-bytes Ipv4 bytes = take-append-drop 4 bytes
 ip-bytes Ipv6 bytes = refl
 
-pub ip-fits : (afi : Afi) (bytes : List ℕ) → Exactly 16 bytes → RouterIpFits (routerIpOf afi bytes)
+pub ip-fits : (afi : Afi) (bytes : List ℕ) → Octets 16 bytes → RouterIpFits (routerIpOf afi bytes)
 ip-fits Ipv4 bytes e = (
-  (length-take-le 4 bytes (omega (arith, e .0)), bytes-take 4 (e .1)),
-  (length-drop 4 bytes ∙ omega (arith, e .0), bytes-drop 4 (e .1)),
+  record { many = length-take-le 4 bytes (omega (arith, e .many)); are-bytes = bytes-take 4 (e .are-bytes) },
+  record { many = length-drop 4 bytes ∙ omega (arith, e .many); are-bytes = bytes-drop 4 (e .are-bytes) },
 )
 ip-fits Ipv6 bytes e = e
 
@@ -71,11 +71,11 @@ module _ (r : Reading) (g : Good r) where
       let n4 = length-append ip behind-ip in
       let n5 = length-append (r .group) (be 4 (r .rowCount) ++ r .tail) in
       let n6 = length-ip (r .routerIp) (g .router-ip-fits) in
-      omega (arith, g .collector-hash-fits .0, g .admin-fits .0, g .router-hash-fits .0, g .group-fits .0)
+      omega (arith, g .collector-hash-fits .many, g .admin-fits .many, g .router-hash-fits .many, g .group-fits .many)
 
   at38 : drop 38 (join r) ≡ joinRest r
   unfolding be
-  at38 = drop-at (r .collectorHash) (joinRest r) 16 (g .collector-hash-fits .0)
+  at38 = drop-at (r .collectorHash) (joinRest r) 16 (g .collector-hash-fits .many)
 
   at40 : drop 40 (join r) ≡ r .admin ++ (r .routerHash ++ (routerIpBytes (r .routerIp) ++ behind-ip))
   unfolding be behind-ip
@@ -84,12 +84,12 @@ module _ (r : Reading) (g : Good r) where
   after-admin : drop (40 + r .adminLength) (join r) ≡ r .routerHash ++ (routerIpBytes (r .routerIp) ++ behind-ip)
   after-admin =
       drop-on (join r) _ 40 (r .adminLength) (40 + r .adminLength) at40 refl
-      ∙ drop-at (r .admin) (r .routerHash ++ (routerIpBytes (r .routerIp) ++ behind-ip)) (r .adminLength) (g .admin-fits .0)
+      ∙ drop-at (r .admin) (r .routerHash ++ (routerIpBytes (r .routerIp) ++ behind-ip)) (r .adminLength) (g .admin-fits .many)
 
   after-hash : drop (56 + r .adminLength) (join r) ≡ routerIpBytes (r .routerIp) ++ behind-ip
   after-hash =
       drop-on (join r) _ (40 + r .adminLength) 16 (56 + r .adminLength) after-admin (omega arith)
-      ∙ drop-at (r .routerHash) (routerIpBytes (r .routerIp) ++ behind-ip) 16 (g .router-hash-fits .0)
+      ∙ drop-at (r .routerHash) (routerIpBytes (r .routerIp) ++ behind-ip) 16 (g .router-hash-fits .many)
 
   after-ip : drop (72 + r .adminLength) (join r) ≡ behind-ip
   after-ip =
@@ -103,7 +103,7 @@ module _ (r : Reading) (g : Good r) where
   after-group : drop (74 + r .adminLength + r .groupLength) (join r) ≡ be 4 (r .rowCount) ++ r .tail
   after-group =
       drop-on (join r) _ (74 + r .adminLength) (r .groupLength) (74 + r .adminLength + r .groupLength) before-group refl
-      ∙ drop-at (r .group) (be 4 (r .rowCount) ++ r .tail) (r .groupLength) (g .group-fits .0)
+      ∙ drop-at (r .group) (be 4 (r .rowCount) ++ r .tail) (r .groupLength) (g .group-fits .many)
 
   at-tail : drop (78 + r .adminLength + r .groupLength) (join r) ≡ r .tail
   unfolding be
@@ -137,10 +137,10 @@ module _ (r : Reading) (g : Good r) where
       let ip = routerIpBytes (r .routerIp) in
       let octets = ap (take 16) after-hash ∙ take-at ip behind-ip 16 (length-ip (r .routerIp) (g .router-ip-fits)) in
       let router-ip = ap (routerIpOf (familyOf (numAt 1 s 12))) octets ∙ ip-back (numAt 1 s 12) (r .routerIp) (g .router-ip-fits) (ipv6-bit ∙ g .ipv6-bit-is) in
-      let collector-hash = take-at (r .collectorHash) (joinRest r) 16 (g .collector-hash-fits .0) in
-      let admin = ap (take a) at40 ∙ take-at (r .admin) (r .routerHash ++ (ip ++ behind-ip)) a (g .admin-fits .0) in
-      let router-hash = ap (take 16) after-admin ∙ take-at (r .routerHash) (ip ++ behind-ip) 16 (g .router-hash-fits .0) in
-      let group = ap (take (r .groupLength)) before-group ∙ take-at (r .group) (be 4 (r .rowCount) ++ r .tail) (r .groupLength) (g .group-fits .0) in
+      let collector-hash = take-at (r .collectorHash) (joinRest r) 16 (g .collector-hash-fits .many) in
+      let admin = ap (take a) at40 ∙ take-at (r .admin) (r .routerHash ++ (ip ++ behind-ip)) a (g .admin-fits .many) in
+      let router-hash = ap (take 16) after-admin ∙ take-at (r .routerHash) (ip ++ behind-ip) 16 (g .router-hash-fits .many) in
+      let group = ap (take (r .groupLength)) before-group ∙ take-at (r .group) (be 4 (r .rowCount) ++ r .tail) (r .groupLength) (g .group-fits .many) in
       let rows : numAt 4 s (74 + a + r .groupLength) ≡ r .rowCount =
       ap (λ (l : List ℕ). value (take 4 l)) after-group ∙ value-be 4 (r .rowCount) (omega (arith, g .row-count-is)) in
       λ i. record {
@@ -191,9 +191,6 @@ num-on w {s} at m p h e = ap (λ (k : ℕ). be w (numAt w s at) ++ drop k s) (sy
 flags-whole : (flags : ℕ) → flagsOf (flags / 0x80) (flags / 0x40 % 2) (flags % 0x40) ≡ flags
 flags-whole flags = omega arith
 
-part-exact : {s : List ℕ} → Bytes s → (at n : ℕ) → at + n ≤ length s → Exactly n (take n (drop at s))
-part-exact {s} p at n h = (length-part s at n h, bytes-take n (bytes-drop at p))
-
 module _ {s : List ℕ} (p : Bytes s) (long : 78 + adminOf s + groupOf s ≤ length s) where
   pub join-parts : join (partsIn s) ≡ s
   join-parts =
@@ -237,7 +234,7 @@ parts-good {s} p acc =
     let a = adminOf s in
     let g = groupOf s in
     let long = acc .long in
-    let octets = part-exact p (56 + a) 16 (omega arith) in
+    let octets = octets-part p (56 + a) 16 (omega arith) in
     record {
       magic-is = acc .magic;
       major-is = acc .major;
@@ -250,13 +247,13 @@ parts-good {s} p acc =
       object-type-is = acc .kind;
       seconds-fit = num-lt 4 14 p;
       microseconds-fit = num-lt 4 18 p;
-      collector-hash-fits = part-exact p 22 16 (omega arith);
+      collector-hash-fits = octets-part p 22 16 (omega arith);
       admin-length-fits = num-lt 2 38 p;
-      admin-fits = part-exact p 40 a (omega arith);
-      router-hash-fits = part-exact p (40 + a) 16 (omega arith);
+      admin-fits = octets-part p 40 a (omega arith);
+      router-hash-fits = octets-part p (40 + a) 16 (omega arith);
       router-ip-fits = ip-fits (familyOf (numAt 1 s 12)) (take 16 (drop (56 + a) s)) octets;
       group-length-fits = num-lt 2 (72 + a) p;
-      group-fits = part-exact p (74 + a) g (omega arith);
+      group-fits = octets-part p (74 + a) g (omega arith);
       row-count-is = acc .rows;
       tail-bytes = bytes-drop (78 + a + g) p;
     }

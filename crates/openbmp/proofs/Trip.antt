@@ -1,23 +1,23 @@
 -- The reading of a header: it is good and shows the header again where that is writable, and only there. Assumes nothing.
-use Prim.Native.Nat.{ℕ, zero, suc, _+_, _≤_}
+use Prim.Native.Nat.{ℕ, _+_, _≤_}
 use mathlib.Core.Bool.{true}
 use mathlib.Core.Path.{_≡_, refl, sym, ap, _∙_, subst}
 use mathlib.Core.List.{List}
 use native.Mathlib.Omega.{arith}
 use lib.Dec.{lit<}
-use lib.ListN.{length, replicate, length-replicate}
+use lib.ListN.{length, replicate}
 use lib.Seq.{take-at}
 use Rattle.wire.specs.Number as Number
-use Rattle.wire.specs.Bytes.{Bytes, none, more}
+use Rattle.wire.specs.Bytes.{Bytes, none}
 use Rattle.wire.specs.View.{view, viewed}
 use Rattle.wire.proofs.Bytes.{bytes-be, bytes-append}
-use Rattle.wire.proofs.Views.{viewed-inside, bytes-viewed}
+use Rattle.wire.proofs.Views.{viewed-inside, bytes-viewed, octets-zeros}
 use Rattle.models.specs.Time.{timeOf}
 use Rattle.models.specs.declared.Afi.{Afi}
 use Rattle.models.specs.declared.Afi.the-variants.{Ipv4, Ipv6}
 use Rattle.models.specs.declared.IpAddr.{IpAddr}
 use Rattle.models.proofs.Promises.{is-timestamp-is-equality}
-use Rattle.openbmp.specs.Grammar.{RouterIp, ipv4, ipv6, Reading, flagsOf, routerIpBytes, join, Exactly, RouterIpFits, bitOf, Good}
+use Rattle.openbmp.specs.Grammar.{RouterIp, ipv4, ipv6, Reading, flagsOf, routerIpBytes, join, RouterIpFits, bitOf, Good}
 use Rattle.openbmp.specs.Shown.{shownIp, shownHeader}
 use Rattle.openbmp.specs.Read.{routerIpOf}
 use Rattle.openbmp.specs.Write.{familyBit, ipOf, blankIp, readingOf, bytesOf, writable, Typed, Same}
@@ -36,15 +36,8 @@ module _ (r : Reading) (g : Good r) where
       ∙ ap (λ (q : Reading). q .group) (by-lengths r g)
 
 -- ---- addresses with their skipped bytes zero
-zeros : (n : ℕ) → Exactly n (replicate n 0)
-zeros n = (length-replicate n 0, go n)
-  where
-    go : (n : ℕ) → Bytes (replicate n 0)
-    go zero = none
-    go (suc n) = more (lit< tt) (go n)
-
 blank-fits : (ip : RouterIp) → RouterIpFits ip → RouterIpFits (blankIp ip)
-blank-fits (ipv4 address skipped) fits = (fits .0, zeros 12)
+blank-fits (ipv4 address skipped) fits = (fits .0, octets-zeros 12)
 blank-fits (ipv6 address) fits = fits
 
 blank-shown : (ip : RouterIp) → shownIp (blankIp ip) ≡ shownIp ip
@@ -56,12 +49,12 @@ blank-bit Ipv4 octets = refl
 blank-bit Ipv6 octets = refl
 
 bytes-ip : (ip : RouterIp) → RouterIpFits ip → Bytes (routerIpBytes ip)
-bytes-ip (ipv4 address skipped) fits = bytes-append (fits .0 .1) (fits .1 .1)
-bytes-ip (ipv6 address) fits = fits .1
+bytes-ip (ipv4 address skipped) fits = bytes-append (fits .0 .are-bytes) (fits .1 .are-bytes)
+bytes-ip (ipv6 address) fits = fits .are-bytes
 
 -- what is shown of an address fits its family
 shown-fits : (ip : RouterIp) → RouterIpFits ip → shownIp (ipOf (shownIp ip)) ≡ shownIp ip
-shown-fits (ipv4 address skipped) fits = rw (take-at address (replicate 12 0) 4 (fits .0 .0))
+shown-fits (ipv4 address skipped) fits = rw (take-at address (replicate 12 0) 4 (fits .0 .many))
 shown-fits (ipv6 address) fits = refl
 
 module _ (h : OpenBmpHeader) (b : List ℕ) (t : Typed h) (p : Bytes b) where
@@ -79,10 +72,10 @@ module _ (h : OpenBmpHeader) (b : List ℕ) (t : Typed h) (p : Bytes b) where
       (bytes-append (bytes-be 1 (h .«object_type»))
       (bytes-append (bytes-be 4 (h .seconds))
       (bytes-append (bytes-be 4 (h .microseconds))
-      (bytes-append (zeros 16 .1)
+      (bytes-append (octets-zeros 16 .are-bytes)
       (bytes-append (bytes-be 2 (h .«admin_id» .length))
       (bytes-append (bytes-viewed b (h .«admin_id») p)
-      (bytes-append (zeros 16 .1)
+      (bytes-append (octets-zeros 16 .are-bytes)
       (bytes-append (bytes-ip (blankIp (ipOf (h .«router_ip»))) own-ip)
       (bytes-append (bytes-be 2 (h .«router_group» .length))
       (bytes-append (bytes-viewed b (h .«router_group») p)
@@ -108,13 +101,13 @@ module _ (h : OpenBmpHeader) (b : List ℕ) (t : Typed h) (p : Bytes b) where
           object-type-is = w .object-type-is;
           seconds-fit = t .seconds-fit;
           microseconds-fit = t .microseconds-fit;
-          collector-hash-fits = zeros 16;
+          collector-hash-fits = octets-zeros 16;
           admin-length-fits = w .admin-short;
-          admin-fits = (viewed-long b (h .«admin_id») (w .admin-inside), bytes-viewed b (h .«admin_id») p);
-          router-hash-fits = zeros 16;
+          admin-fits = record { many = viewed-long b (h .«admin_id») (w .admin-inside); are-bytes = bytes-viewed b (h .«admin_id») p };
+          router-hash-fits = octets-zeros 16;
           router-ip-fits = own-ip;
           group-length-fits = w .group-short;
-          group-fits = (viewed-long b (h .«router_group») (w .group-inside), bytes-viewed b (h .«router_group») p);
+          group-fits = record { many = viewed-long b (h .«router_group») (w .group-inside); are-bytes = bytes-viewed b (h .«router_group») p };
           row-count-is = refl;
           tail-bytes = none;
         }
@@ -147,9 +140,9 @@ module _ (h : OpenBmpHeader) (b : List ℕ) (t : Typed h) (p : Bytes b) where
     again-writable =
         let time = same .timestamp-same ∙ (λ i. timeOf (sym (same .seconds-same) i) (sym (same .microseconds-same) i)) in
         let admin : h .«admin_id» .length ≡ q .adminLength =
-        sym (viewed-long b (h .«admin_id») admin-inside) ∙ ap length (same .admin-same ∙ admin-viewed q g) ∙ g .admin-fits .0 in
+        sym (viewed-long b (h .«admin_id») admin-inside) ∙ ap length (same .admin-same ∙ admin-viewed q g) ∙ g .admin-fits .many in
         let group : h .«router_group» .length ≡ q .groupLength =
-        sym (viewed-long b (h .«router_group») group-inside) ∙ ap length (same .group-same ∙ group-viewed q g) ∙ g .group-fits .0 in
+        sym (viewed-long b (h .«router_group») group-inside) ∙ ap length (same .group-same ∙ group-viewed q g) ∙ g .group-fits .many in
         writable-from h (length b)
         (record {
           major-is = same .major-same ∙ g .major-is;

@@ -30,8 +30,7 @@
 use Prim.Native.Nat.{ℕ, _+_, _*_, _^_, _<_}
 use mathlib.Core.Path.{_≡_}
 use mathlib.Core.List.{List, [], _∷_, _++_}
-use lib.ListN.{length}
-use Rattle.wire.specs.Bytes.{be, Bytes}
+use Rattle.wire.specs.Bytes.{be, Bytes, Octets}
 
 -- the fields' widths in order, by the two lengths that are read: a magic number is one field, and so is an address
 abbrev pub widths : ℕ → ℕ → List ℕ
@@ -86,12 +85,9 @@ join r =
     (be 4 (r .seconds) ++ (be 4 (r .microseconds) ++ (r .collectorHash ++ joinRest r)))))))))
 
 -- ---- what makes a reading good: the fixed parts have their one value, the others fit their fields, and the lengths are those of what they count
-abbrev pub Exactly : ℕ → List ℕ → Type 0
-Exactly n l = (length l ≡ n) × Bytes l
-
 abbrev pub RouterIpFits : RouterIp → Type 0
-RouterIpFits (ipv4 address skipped) = Exactly 4 address × Exactly 12 skipped
-RouterIpFits (ipv6 address) = Exactly 16 address
+RouterIpFits (ipv4 address skipped) = Octets 4 address × Octets 12 skipped
+RouterIpFits (ipv6 address) = Octets 16 address
 
 -- the bit that goes with a family
 abbrev pub bitOf : RouterIp → ℕ
@@ -110,12 +106,12 @@ pub record Good (r : Reading) : Type 0 where
   pub object-type-is : r .objectType ≡ 12
   pub seconds-fit : r .seconds < 256 ^ 4
   pub microseconds-fit : r .microseconds < 256 ^ 4
-  pub collector-hash-fits : Exactly 16 (r .collectorHash)
+  pub collector-hash-fits : Octets 16 (r .collectorHash)
   pub admin-length-fits : r .adminLength < 256 ^ 2
-  pub admin-fits : Exactly (r .adminLength) (r .admin)
-  pub router-hash-fits : Exactly 16 (r .routerHash)
+  pub admin-fits : Octets (r .adminLength) (r .admin)
+  pub router-hash-fits : Octets 16 (r .routerHash)
   pub router-ip-fits : RouterIpFits (r .routerIp)
   pub group-length-fits : r .groupLength < 256 ^ 2
-  pub group-fits : Exactly (r .groupLength) (r .group)
+  pub group-fits : Octets (r .groupLength) (r .group)
   pub row-count-is : r .rowCount ≡ 1
   pub tail-bytes : Bytes (r .tail)

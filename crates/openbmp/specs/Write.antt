@@ -6,7 +6,7 @@ use mathlib.Core.List.{List, [], _++_}
 use lib.Dec.{T, eqb, ltb}
 use lib.Ieee.{binary64, fits}
 use lib.ListN.{length, replicate}
-use Rattle.wire.specs.Bytes.{be}
+use Rattle.wire.specs.Bytes.{be, Octets}
 use Rattle.wire.specs.View.{inside, viewed}
 use Rattle.wire.specs.declared.View.{View}
 use Rattle.models.specs.Address.{sameAddress}
@@ -14,7 +14,7 @@ use Rattle.models.specs.Time.{isTimestamp}
 use Rattle.models.specs.declared.Afi.{Afi}
 use Rattle.models.specs.declared.Afi.the-variants.{Ipv4, Ipv6}
 use Rattle.models.specs.declared.IpAddr.{IpAddr}
-use Rattle.openbmp.specs.Grammar.{RouterIp, ipv4, ipv6, Reading, join, Exactly}
+use Rattle.openbmp.specs.Grammar.{RouterIp, ipv4, ipv6, Reading, join}
 use Rattle.openbmp.specs.Shown.{shownIp}
 use Rattle.openbmp.specs.Read.{routerIpOf}
 use Rattle.openbmp.specs.declared.OpenBmpHeader.{OpenBmpHeader}
@@ -104,7 +104,7 @@ pub record Typed (h : OpenBmpHeader) : Type 0 where
   pub time-fits : T (fits binary64 (h .timestamp))
   pub seconds-fit : h .seconds < 256 ^ 4
   pub microseconds-fit : h .microseconds < 256 ^ 4
-  pub octets : Exactly 16 (h .«router_ip» .octets)
+  pub octets : Octets 16 (h .«router_ip» .octets)
 
 -- two headers are the same: their numbers and addresses, and the bytes that their views show, each in its own buffer
 pub record Same (h : OpenBmpHeader) (b : List ℕ) (k : OpenBmpHeader) (s : List ℕ) : Type 0 where

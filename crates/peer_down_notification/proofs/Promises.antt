@@ -14,7 +14,7 @@ use Rattle.writing.specs.Write.{lengthOf, writeAnswer, written}
 use Rattle.writing.specs.declared.WriteAnswer.{WriteAnswer}
 use Rattle.writing.specs.declared.WriteAnswer.the-variants.{Written}
 use Rattle.writing.proofs.Answers.{front}
-use Rattle.peer_down_notification.specs.Grammar.{Data, Reading, join, Follows, Good}
+use Rattle.peer_down_notification.specs.Grammar.{Data, Reading, join, Follows}
 use Rattle.peer_down_notification.specs.Shown.{kindOf, shownData, shown, refusalOf, stopOf, notificationOf, viewOf, grammar}
 use Rattle.peer_down_notification.specs.Read.{partsOf, readPeerDown, reader}
 use Rattle.peer_down_notification.specs.Write.{dataOf, readingOf, bytesOf, writable, Same}

@@ -17,7 +17,7 @@ use Rattle.writing.proofs.Table.{length-parts}
 use Rattle.models.specs.declared.Afi.{Afi}
 use Rattle.peer_type.specs.declared.BmpPeerType.{BmpPeerType}
 use Rattle.peer_up_notification.specs.Grammar.{Reading, join, Good}
-use Rattle.peer_up_notification.specs.Shown.{Fits, shown, grammar}
+use Rattle.peer_up_notification.specs.Shown.{shown, grammar}
 use Rattle.peer_up_notification.specs.Read.{readPeerUp, reader}
 use Rattle.peer_up_notification.specs.Write.{writer, kept, readingOf, bytesOf, writable, Typed}
 use Rattle.peer_up_notification.specs.declared.PeerUpNotification.{PeerUpNotification}

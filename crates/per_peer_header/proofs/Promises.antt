@@ -7,10 +7,10 @@ use native.Mathlib.Omega.{arith}
 use borrow.Author.Tests.{lt-ltb, le-ltb}
 use lib.ListN.{length, take, drop}
 use Rattle.wire.specs.Number as Number
-use Rattle.wire.specs.Bytes.{pick, numAt, numberAt, Bytes}
+use Rattle.wire.specs.Bytes.{pick, numAt, numberAt, Octets}
 use Rattle.wire.specs.Refusal.{refusal, noRefusal, cutAt}
-use Rattle.wire.proofs.Bytes.{num-lt, bytes-take, bytes-drop, number-is}
-use Rattle.wire.proofs.Views.{length-part}
+use Rattle.wire.proofs.Bytes.{num-lt, bytes-drop, number-is}
+use Rattle.wire.proofs.Views.{octets-part}
 use Rattle.wire.proofs.Determined.{determined}
 use Rattle.wire.specs.Exactly.{Sound, Complete, Unique}
 use Rattle.writing.specs.Write.{lengthOf, writeAnswer, written}
@@ -20,7 +20,7 @@ use Rattle.writing.proofs.Answers.{front}
 use Rattle.layout.specs.Layout.{firstCut}
 use Rattle.layout.proofs.Promises.{FirstLacking, first-lacking}
 use Rattle.peer.specs.declared.BmpPerPeerHeader.{BmpPerPeerHeader}
-use Rattle.per_peer_header.specs.Grammar.{widths, Reading, addressBytes, join, Octets, Good}
+use Rattle.per_peer_header.specs.Grammar.{widths, Reading, addressBytes, join, Good}
 use Rattle.models.specs.Warnings.{countOnes}
 use Rattle.per_peer_header.specs.Warnings.{strayAddress, noRouterId, warnings}
 use Rattle.per_peer_header.specs.Shown.{shown, refused, grammar}
@@ -35,8 +35,7 @@ use Rattle.per_peer_header.proofs.Written.{good-reading, shown-again, a
 pub sound : Sound reader
 sound s p e =
     let a = accepted s e in
-    let sixteen : Octets 16 (take 16 (drop 10 s)) =
-    record { many = length-part s 10 16 (omega (arith, a .long)); are-bytes = bytes-take 16 (bytes-drop 10 p) } in (
+    let sixteen : Octets 16 (take 16 (drop 10 s)) = octets-part p 10 16 (omega (arith, a .long)) in (
       partsOf s,
       record {
         reading =

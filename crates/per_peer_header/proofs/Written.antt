@@ -1,22 +1,23 @@
 -- What the writer writes: which headers are writable, and the bytes of one field after the other. Assumes nothing.
-use Prim.Native.Nat.{ℕ, zero, suc, _/_, _%_, _^_, _≤_, _<_}
+use Prim.Native.Nat.{ℕ, _/_, _%_, _^_, _≤_, _<_}
 use mathlib.Core.Bool.{true, and-eq-true-iff}
 use mathlib.Core.Path.{_≡_, refl, sym, ap, _∙_}
 use mathlib.Core.List.{List, _++_}
 use native.Mathlib.Omega.{arith}
 use borrow.Author.Tests.{eqb-true, eq-eqb}
 use lib.Dec.{lit<}
-use lib.ListN.{length, replicate, length-append, length-replicate}
+use lib.ListN.{length, length-append}
 use lib.Seq.{sets}
-use Rattle.wire.specs.Bytes.{be, Bytes, none, more}
+use Rattle.wire.specs.Bytes.{be, none}
 use Rattle.wire.proofs.Bytes.{be-split}
+use Rattle.wire.proofs.Views.{octets-zeros}
 use Rattle.writing.specs.Write.{putAt}
 use Rattle.writing.proofs.Sets.{put-then, put-fits, length-put}
 use Rattle.models.specs.declared.IpAddr.{IpAddr}
 use Rattle.models.proofs.Promises.{equals-is-equality, is-timestamp-is-equality}
 use Rattle.peer_type.specs.Peer.{kindOf}
 use Rattle.peer_type.proofs.Told.{named}
-use Rattle.per_peer_header.specs.Grammar.{AddressField, ipv4, ipv6, unused, AsField, as16, as32, addressBytes, asBytes, Octets, AddressFits, AsFits, Layout, ipv4-as16, ipv4-as32, ipv6-as16, ipv6-as32, loc-rib, Good}
+use Rattle.per_peer_header.specs.Grammar.{AddressField, ipv4, ipv6, unused, AsField, as16, as32, addressBytes, asBytes, AddressFits, AsFits, Layout, ipv4-as16, ipv4-as32, ipv6-as16, ipv6-as32, loc-rib, Good}
 use Rattle.per_peer_header.specs.Shown.{shownAddress, shownAsn, shownHeader}
 use Rattle.per_peer_header.specs.Write.{addressOf, asOf, blankAddress, blankAs, readingOf, bytesOf, addressFits, asFits, timeFits, writable, Typed}
 use Rattle.peer.specs.declared.BmpPerPeerHeader.{BmpPerPeerHeader}
@@ -98,13 +99,6 @@ module _ (h : BmpPerPeerHeader) where
           p8 ∙ ap (putAt out 0) (sym written-fields) ∙ put-fits out 0 (bytesOf h) (omega (arith, length-written))
 
 -- ---- a field with its skipped bytes zero has the same layout, fits as well, and is shown the same
-zeros-octets : (n : ℕ) → Octets n (replicate n 0)
-zeros-octets n = record { many = length-replicate n 0; are-bytes = go n }
-  where
-    go : (n : ℕ) → Bytes (replicate n 0)
-    go zero = none
-    go (suc n) = more (lit< tt) (go n)
-
 blank-layout : {kind flags : ℕ} {a : AddressField} {n : AsField} → Layout kind flags a n → Layout kind flags (blankAddress a) (blankAs n)
 blank-layout (ipv4-as16 k v f) = ipv4-as16 k v f
 blank-layout (ipv4-as32 k v f) = ipv4-as32 k v f
@@ -113,9 +107,9 @@ blank-layout (ipv6-as32 k v f) = ipv6-as32 k v f
 blank-layout (loc-rib k) = loc-rib k
 
 blank-address : (a : AddressField) → AddressFits a → AddressFits (blankAddress a) × (shownAddress (blankAddress a) ≡ shownAddress a)
-blank-address (ipv4 skipped address) fits = ((zeros-octets 12, fits .1), refl)
+blank-address (ipv4 skipped address) fits = ((octets-zeros 12, fits .1), refl)
 blank-address (ipv6 address) fits = (fits, refl)
-blank-address (unused skipped) fits = (zeros-octets 16, refl)
+blank-address (unused skipped) fits = (octets-zeros 16, refl)
 
 blank-as : (a : AsField) → AsFits a → AsFits (blankAs a) × (shownAsn (blankAs a) ≡ shownAsn a)
 blank-as (as16 skipped number) fits = ((lit< tt, fits .1), refl)

@@ -20,8 +20,7 @@ use Prim.Native.Nat.{ℕ, _^_, _<_}
 use mathlib.Core.Bool.{true, false}
 use mathlib.Core.Path.{_≡_}
 use mathlib.Core.List.{List, [], _∷_, _++_}
-use lib.ListN.{length}
-use Rattle.wire.specs.Bytes.{be, Bytes}
+use Rattle.wire.specs.Bytes.{be, Bytes, Octets}
 use Rattle.peer_type.specs.Peer.{flagV, flagA}
 
 -- the fields' widths in order: an address is one field, and so is an AS
@@ -64,10 +63,6 @@ join r =
     (be 4 (r .id) ++ (be 4 (r .seconds) ++ (be 4 (r .microseconds) ++ r .tail)))))))
 
 -- ---- what makes a reading good: its parts fit their fields, and address and AS are laid out as type and flags say
-pub record Octets (n : ℕ) (l : List ℕ) : Type 0 where
-  pub many : length l ≡ n
-  pub are-bytes : Bytes l
-
 abbrev pub AddressFits : AddressField → Type 0
 AddressFits (ipv4 skipped address) = Octets 12 skipped × Octets 4 address
 AddressFits (ipv6 address) = Octets 16 address

@@ -21,7 +21,7 @@ use Rattle.writing.specs.declared.WriteAnswer.the-variants.{Written}
 use Rattle.writing.proofs.Answers.{front}
 use Rattle.writing.proofs.Table.{length-parts}
 use Rattle.route_mirroring.specs.Grammar.{Reading, join, Good}
-use Rattle.route_mirroring.specs.Shown.{sizeOf, zeroTlv, places, shown, grammar}
+use Rattle.route_mirroring.specs.Shown.{sizeOf, zeroTlv, places, grammar}
 use Rattle.route_mirroring.specs.Read.{kit, readMirroring, reader}
 use Rattle.route_mirroring.specs.Write.{writer, kept, readingOf, bytesOf, writable}
 use Rattle.route_mirroring.specs.declared.RouteMirroringTlv.{RouteMirroringTlv}

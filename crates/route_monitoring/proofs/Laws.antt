@@ -13,8 +13,8 @@ use Rattle.wire.specs.Bytes.{pick, be, value, numAt, Bytes}
 use Rattle.wire.specs.Refusal.{refusal, cutAt}
 use Rattle.wire.specs.View.{inside}
 use Rattle.wire.specs.declared.View.{View}
-use Rattle.wire.proofs.Bytes.{value-be, num-lt, num-back, part-back, bytes-take, bytes-drop}
-use Rattle.wire.proofs.Views.{length-part}
+use Rattle.wire.proofs.Bytes.{value-be, num-lt, num-back, part-back, bytes-drop}
+use Rattle.wire.proofs.Views.{octets-part}
 use Rattle.models.specs.declared.AsnLength.{AsnLength}
 use Rattle.peer_type.specs.declared.BmpPeerType.{BmpPeerType}
 use Rattle.route_monitoring.specs.Grammar.{Reading, join, Good}
@@ -27,18 +27,18 @@ use Rattle.route_monitoring.specs.declared.RouteMonitoringAnswer.{RouteM
 module _ (r : Reading) (g : Good r) where
   pub length-join : length (join r) ≡ 19 + length (r .rest)
   unfolding be
-  length-join = length-append (r .marker) (be 2 (r .size) ++ (be 1 (r .kind) ++ r .rest)) ∙ omega (arith, g .marker-many)
+  length-join = length-append (r .marker) (be 2 (r .size) ++ (be 1 (r .kind) ++ r .rest)) ∙ omega (arith, g .marker-fits .many)
 
   pub parts-join : partsOf (join r) ≡ r
   unfolding be
   parts-join =
       let behind = be 2 (r .size) ++ (be 1 (r .kind) ++ r .rest) in
-      let at16 : drop 16 (join r) ≡ behind = drop-at (r .marker) behind 16 (g .marker-many) in
+      let at16 : drop 16 (join r) ≡ behind = drop-at (r .marker) behind 16 (g .marker-fits .many) in
       let past : (n : ℕ) → drop (16 + n) (join r) ≡ drop n behind = λ n. sym (drop-drop n 16 (join r)) ∙ ap (drop n) at16 in
       let size-is : numAt 2 (join r) 16 ≡ r .size = ap (λ (l : List ℕ). value (take 2 l)) at16 ∙ value-be 2 (r .size) (g .size-fits) in
       let kind-is : numAt 1 (join r) 18 ≡ r .kind = ap (λ (l : List ℕ). value (take 1 l)) (past 2) ∙ value-be 1 (r .kind) (g .kind-fits) in
       λ i. record {
-        marker = take-at (r .marker) behind 16 (g .marker-many) i;
+        marker = take-at (r .marker) behind 16 (g .marker-fits .many) i;
         size = size-is i;
         kind = kind-is i;
         rest = past 3 i;
@@ -52,8 +52,7 @@ module _ {s : List ℕ} (p : Bytes s) (long : 19 ≤ length s) where
   pub parts-good : Good (partsOf s)
   parts-good =
       record {
-        marker-many = length-part s 0 16 (omega arith);
-        marker-bytes = bytes-take 16 p;
+        marker-fits = octets-part p 0 16 (omega arith);
         size-fits = num-lt 2 16 p;
         kind-fits = num-lt 1 18 p;
         rest-bytes = bytes-drop 19 p;

@@ -7,10 +7,8 @@
 --
 -- A BGP message stays bytes, so nothing of it but its header is asked for. There is no tail.
 use Prim.Native.Nat.{ℕ, _^_, _<_}
-use mathlib.Core.Path.{_≡_}
 use mathlib.Core.List.{List, _++_}
-use lib.ListN.{length}
-use Rattle.wire.specs.Bytes.{be, Bytes}
+use Rattle.wire.specs.Bytes.{be, Bytes, Octets}
 
 pub record Reading : Type 0 where
   pub marker : List ℕ
@@ -22,8 +20,7 @@ abbrev pub join : Reading → List ℕ
 join r = r .marker ++ (be 2 (r .size) ++ (be 1 (r .kind) ++ r .rest))
 
 pub record Good (r : Reading) : Type 0 where
-  pub marker-many : length (r .marker) ≡ 16
-  pub marker-bytes : Bytes (r .marker)
+  pub marker-fits : Octets 16 (r .marker)
   pub size-fits : r .size < 256 ^ 2
   pub kind-fits : r .kind < 256 ^ 1
   pub rest-bytes : Bytes (r .rest)

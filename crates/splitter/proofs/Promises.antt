@@ -17,7 +17,7 @@ use Rattle.common_header.specs.Read.{readCommonHeader}
 use Rattle.common_header.specs.declared.CommonHeaderAnswer.{CommonHeaderAnswer}
 use Rattle.common_header.proofs.Laws.{length-join}
 use Rattle.common_header.proofs.Promises as HeaderPromises
-use Rattle.splitter.specs.Grammar.{Reading, headerOf, join, Good}
+use Rattle.splitter.specs.Grammar.{headerOf, join, Good}
 use Rattle.splitter.specs.Shown.{shown, refusalOf, messageOf, commonHeaderOf, grammar}
 use Rattle.splitter.specs.Read.{afterHeader, splitOf, reader}
 use Rattle.splitter.specs.declared.SplitAnswer.{SplitAnswer}

@@ -20,7 +20,7 @@ use Rattle.writing.specs.declared.WriteAnswer.{WriteAnswer}
 use Rattle.writing.specs.declared.WriteAnswer.the-variants.{Written}
 use Rattle.writing.proofs.Answers.{front}
 use Rattle.stats_report.specs.Grammar.{Reading, join, Good}
-use Rattle.stats_report.specs.Shown.{zeroCounter, places, sizeOf, Fits, shown, grammar}
+use Rattle.stats_report.specs.Shown.{zeroCounter, places, sizeOf, grammar}
 use Rattle.stats_report.specs.Read.{kit, readStats, reader}
 use Rattle.stats_report.specs.Write.{readingOf, bytesOf, writable}
 use Rattle.stats_report.specs.declared.StatCounter.{StatCounter}

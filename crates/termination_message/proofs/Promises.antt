@@ -22,7 +22,7 @@ use Rattle.writing.specs.declared.WriteAnswer.the-variants.{Written}
 use Rattle.writing.proofs.Answers.{front}
 use Rattle.writing.proofs.Table.{length-parts}
 use Rattle.termination_message.specs.Grammar.{sizeOf, Reading, join, Good}
-use Rattle.termination_message.specs.Shown.{typeOf, zeroTlv, places, shown, grammar}
+use Rattle.termination_message.specs.Shown.{typeOf, zeroTlv, places, grammar}
 use Rattle.termination_message.specs.Read.{kit, readTermination, reader}
 use Rattle.termination_message.specs.Write.{writer, kept, readingOf, bytesOf, writable}
 use Rattle.termination_message.specs.declared.TerminationTlvType.{TerminationTlvType}

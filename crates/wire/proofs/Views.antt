@@ -2,12 +2,13 @@
 use mathlib.Core.Path.{_≡_, refl}
 use mathlib.Core.Bool.{Bool, true, false}
 use mathlib.Core.List.{List, []}
-use Prim.Native.Nat.{ℕ, _+_, _≤_, _<_}
+use Prim.Native.Nat.{ℕ, zero, suc, _+_, _≤_, _<_}
 use native.Mathlib.Omega.{arith}
 use borrow.Author.Tests.{le-leb, lt-leb, leb-false}
-use lib.ListN.{length, take, drop, length-take, length-drop}
+use lib.Dec.{lit<}
+use lib.ListN.{length, take, drop, replicate, length-take, length-drop, length-replicate}
 use lib.Seq.{length-take-le}
-use Rattle.wire.specs.Bytes.{pick, Bytes, none}
+use Rattle.wire.specs.Bytes.{pick, Bytes, none, more, Octets}
 use Rattle.wire.specs.View.{inside, viewed}
 use Rattle.wire.specs.declared.View.{View}
 use Rattle.wire.proofs.Bytes.{bytes-take, bytes-drop}
@@ -47,3 +48,14 @@ bytes-viewed b v p = go (inside (length b) v)
     go : (c : Bool) → Bytes (pick c (take (v .length) (drop (v .place) b)) [])
     go true = bytes-take (v .length) (bytes-drop (v .place) p)
     go false = none
+
+-- ---- n bytes: a part of some bytes, zeros
+pub octets-part : {s : List ℕ} → Bytes s → (at n : ℕ) → at + n ≤ length s → Octets n (take n (drop at s))
+octets-part {s} p at n h = record { many = length-part s at n h; are-bytes = bytes-take n (bytes-drop at p) }
+
+pub octets-zeros : (n : ℕ) → Octets n (replicate n 0)
+octets-zeros n = record { many = length-replicate n 0; are-bytes = go n }
+  where
+    go : (n : ℕ) → Bytes (replicate n 0)
+    go zero = none
+    go (suc n) = more (lit< tt) (go n)

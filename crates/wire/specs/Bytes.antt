@@ -1,6 +1,7 @@
 -- Big-endian numbers over any width: `be w n` are the w bytes of n, the most significant first, and `value l` is the number
 -- that the bytes l write.
 use Prim.Native.Nat.{ℕ, zero, suc, _+_, _-_, _*_, _/_, _%_, _^_, _<_}
+use mathlib.Core.Path.{_≡_}
 use mathlib.Core.Bool.{Bool, true, false}
 use mathlib.Core.List.{List, [], _∷_}
 use lib.ListN.{length, take, drop}
@@ -23,6 +24,11 @@ value (b ∷ l) = b * 256 ^ length l + value l
 pub data Bytes : List ℕ → Type 0 where
   none : Bytes []
   more : {b : ℕ} {l : List ℕ} → b < 256 → Bytes l → Bytes (b ∷ l)
+
+-- n bytes, whatever they are
+pub record Octets (n : ℕ) (l : List ℕ) : Type 0 where
+  pub many : length l ≡ n
+  pub are-bytes : Bytes l
 
 -- the number that the w bytes of s from a place on write
 abbrev pub numAt : ℕ → List ℕ → ℕ → ℕ

@@ -25,7 +25,7 @@ typed c =
       time-fits = search needs;
       seconds-fit = omega (arith, c .good);
       microseconds-fit = omega (arith, c .good);
-      octets = (search needs, array-bytes (c .args .header .«router_ip» .octets) (address .0) (address .1 .1));
+      octets = record { many = search needs; are-bytes = array-bytes (c .args .header .«router_ip» .octets) (address .0) (address .1 .1) };
     }
 
 okay : (c : tie.Else1) → writable (c .before .before .before .before .args .header) (length (now (c .before .before .before .before .args .buffer))) ≡ true
@@ -35,7 +35,7 @@ short : (c : tie.Else1) → Writable (c .before .before .before .before .args .h
 short c = writable-is (c .before .before .before .before .args .header) (length (now (c .before .before .before .before .args .buffer))) (okay c)
 
 long : (c : tie.Else1) → (writable (c .before .before .before .before .args .header) (length (now (c .before .before .before .before .args .buffer)))) ≡ true → length (bytesOf (c .before .before .before .before .args .header) (now (c .before .before .before .before .args .buffer))) ≡ 78 + c .before .before .before .before .args .header .«admin_id» .length + c .before .before .before .before .args .header .«router_group» .length
-long c w = length-written (c .before .before .before .before .args .header) (now (c .before .before .before .before .args .buffer)) (typed (c .before .before .before .before) .octets .0) w
+long c w = length-written (c .before .before .before .before .args .header) (now (c .before .before .before .before .args .buffer)) (typed (c .before .before .before .before) .octets .many) w
 
 asked : (c : tie.After-write-answer2) → c .write-answer2 .result ≡ writeAnswer (writable (c .before .before .before .before .before .before .before .before .before .args .header) (length (now (c .before .before .before .before .before .before .before .before .before .args .buffer)))) (78 + c .before .before .before .before .before .before .before .before .before .args .header .«admin_id» .length + c .before .before .before .before .before .before .before .before .before .args .header .«router_group» .length) (length (now (c .before .before .before .before .before .before .before .before .before .args .out)))
 asked c = c .write-answer2 .ensures ∙ ap (λ (b : Bool). writeAnswer b (78 + c .before .before .before .before .before .before .before .before .before .args .header .«admin_id» .length + c .before .before .before .before .before .before .before .before .before .args .header .«router_group» .length) (length (now (c .before .before .before .before .before .before .before .before .before .args .out)))) (sym (okay (c .before .before .before .before .before)))
@@ -122,7 +122,7 @@ returns-3 c =
     let r = room (c .before .before .before .before .before .before .before .before .before .before .before .before .before .before .before .before .before) in
     let n = lengths (c .before .before .before .before) in
     let all = put-written h b (okay (c .before .before .before .before .before .before .before .before .before .before .before .before .before .before .before .before .before .before .before .before .before .before .before .before)) _ _ (c .before .before .before .before .before .part .ensures) (c .before .before .before .before .part2 .ensures) (c .before .before .before .before .before .before .before .before .before .before .before .before .before .before .flags-of .result) (now (c .before .before .before .before .before .before .before .before .before .before .before .before .before .before .before .before .before .before .before .before .before .before .before .before .before .before .before .before .args .out)) _ _ _
-    (typed (c .before .before .before .before .before .before .before .before .before .before .before .before .before .before .before .before .before .before .before .before .before .before .before .before .before .before .before .before) .octets .0) (omega (arith, r, n .0, n .1)) (c .before .before .before .before .before .before .before .before .before .before .before .before .before .before .flags-of .ensures) (c .before .before .before .before .before .before .before .before .before .before .before .before .put-front .ensures) (c .before .before .before .before .before .before .before .before .put-time .ensures) (c .before .before .put-rest .ensures) in
+    (typed (c .before .before .before .before .before .before .before .before .before .before .before .before .before .before .before .before .before .before .before .before .before .before .before .before .before .before .before .before) .octets .many) (omega (arith, r, n .0, n .1)) (c .before .before .before .before .before .before .before .before .before .before .before .before .before .before .flags-of .ensures) (c .before .before .before .before .before .before .before .before .before .before .before .before .put-front .ensures) (c .before .before .before .before .before .before .before .before .put-time .ensures) (c .before .before .put-rest .ensures) in
     (answered _ s (now (c .before .before .before .before .before .before .before .before .before .before .before .before .before .before .before .before .before .before .before .before .before .before .before .before .before .before .before .before .args .out)) _ (long (c .before .before .before .before .before .before .before .before .before .before .before .before .before .before .before .before .before .before .before .before .before .before .before .before)) _ (asked (c .before .before .before .before .before .before .before .before .before .before .before .before .before .before .before .before .before .before .before)), put-there _ s (now (c .before .before .before .before .before .before .before .before .before .before .before .before .before .before .before .before .before .before .before .before .before .before .before .before .before .before .before .before .args .out)) _ (long (c .before .before .before .before .before .before .before .before .before .before .before .before .before .before .before .before .before .before .before .before .before .before .before .before)) _ (asked (c .before .before .before .before .before .before .before .before .before .before .before .before .before .before .before .before .before .before .before)) _ (c .before .before .before .before .before .before .before .before .before .before .before .before .before .before .before .before .before .enum-told .given .1) _ all)
 
 pub write-openbmp-header-spec : {M : Type 1} → statement M
