@@ -1,14 +1,10 @@
 -- A body's number is 0 exactly where the body has a reading, for each body. Assumes nothing.
 use Prim.Native.Nat.{ℕ, _≤_}
-use mathlib.Core.Bool.{Bool, true, false}
-use mathlib.Core.Path.{_≡_, refl, sym, _∙_, subst}
+use mathlib.Core.Path.{_≡_, refl, sym, subst}
 use mathlib.Core.List.{List}
-use native.Mathlib.Omega.{arith}
-use borrow.Author.Tests.{ltb-false}
-use lib.Dec.{ltb}
 use lib.ListN.{length}
 use Rattle.wire.specs.Number as Number
-use Rattle.wire.specs.Bytes.{pick, Bytes}
+use Rattle.wire.specs.Bytes.{Bytes}
 use Rattle.wire.specs.Exactly.{Readable}
 use Rattle.models.specs.declared.Afi.{Afi}
 use Rattle.common_header.specs.declared.BmpMsgType.{BmpMsgType}
@@ -23,16 +19,6 @@ use Rattle.message_answer.specs.Grammar.{familyOf, Body, route-monitorin
 use Rattle.message_answer.specs.Answer.{bodyNumber}
 use Rattle.message_answer.specs.declared.PeerBody.{PeerBody}
 use Rattle.message_answer.specs.declared.PeerBody.the-variants.{Monitoring, Statistics, Down, Mirroring}
-
--- ---- what is the same for each part
--- a reader that judges the length first, and gives 0, was not given too much
-pub not-too-long : {A : Type 0} (number : A → ℕ) (too-long other : A) (n : ℕ) → number too-long ≡ Number.TooLong
-    → number (pick (ltb Number.limit n) too-long other) ≡ Number.Good → n ≤ Number.limit
-not-too-long number too-long other n one e = go (ltb Number.limit n) refl e
-  where
-    go : (b : Bool) → ltb Number.limit n ≡ b → number (pick b too-long other) ≡ Number.Good → n ≤ Number.limit
-    go true h q = let z : _≡_ {A = ℕ} 1 0 = sym one ∙ q in absurd (omega arith)
-    go false h q = ltb-false Number.limit n h
 
 -- ---- the bodies behind a header
 abbrev pub typeOf : PeerBody → BmpMsgType

@@ -6,6 +6,7 @@ use lib.ListN.{length}
 use Rattle.wire.specs.Number as Number
 use Rattle.wire.specs.Bytes.{Bytes}
 use Rattle.wire.proofs.Determined.{determined}
+use Rattle.wire.proofs.Exactly.{not-too-long}
 use Rattle.common_header.specs.declared.BmpMsgType.{BmpMsgType}
 use Rattle.common_header.specs.declared.BmpMsgType.the-variants.{RouteMonitoring, StatisticsReport, PeerDownNotification, PeerUpNotification, InitiationMessage, TerminationMessage, RouteMirroringMessage}
 use Rattle.per_peer_header.specs.Grammar as Header
@@ -18,7 +19,7 @@ use Rattle.message_answer.specs.declared.PeerBody.{PeerBody}
 use Rattle.message_answer.specs.declared.PeerBody.the-variants.{Monitoring, Statistics, Down, Up, Mirroring}
 use Rattle.message_answer.proofs.Header.{peer-good, peer-sound}
 use Rattle.message_answer.proofs.Small.{initiation-small, termination-small, peer-small}
-use Rattle.message_answer.proofs.Bodies.{not-too-long, typeOf, body-sound, body-complete}
+use Rattle.message_answer.proofs.Bodies.{typeOf, body-sound, body-complete}
 
 -- ---- a number of 0 has a reading
 of-peer : (b : PeerBody) (s : List ℕ) → Bytes s → peerNumber b s ≡ Number.Good → HasReading (typeOf b) s
@@ -36,10 +37,10 @@ answer-sound StatisticsReport s p e = of-peer Statistics s p e
 answer-sound PeerDownNotification s p e = of-peer Down s p e
 answer-sound PeerUpNotification s p e = of-peer Up s p e
 answer-sound InitiationMessage s p e =
-    let short = not-too-long (λ (a : InitiationAnswer). a .refusal .number) _ _ (length s) refl e in
+    let short = not-too-long (λ (a : InitiationAnswer). a .refusal .number) _ _ (length s) refl e .0 in
     record { not-too-long = short; message = initiation (initiation-exactly .only-readings s p short e) }
 answer-sound TerminationMessage s p e =
-    let short = not-too-long (λ (a : TerminationAnswer). a .refusal .number) _ _ (length s) refl e in
+    let short = not-too-long (λ (a : TerminationAnswer). a .refusal .number) _ _ (length s) refl e .0 in
     record { not-too-long = short; message = termination (termination-exactly .only-readings s p short e) }
 answer-sound RouteMirroringMessage s p e = of-peer Mirroring s p e
 

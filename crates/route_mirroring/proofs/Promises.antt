@@ -1,20 +1,18 @@
 -- What a user of the Route Mirroring body relies on. Assumes nothing.
 use mathlib.Core.Path.{_≡_, refl, sym, _∙_, subst}
-use mathlib.Core.Bool.{Bool, true, false}
+use mathlib.Core.Bool.{true}
 use mathlib.Core.List.{List}
 use Prim.Native.Nat.{ℕ, _≤_, _<_}
 use native.Mathlib.Omega.{arith}
-use borrow.Author.Tests.{ltb-false}
-use lib.Dec.{ltb}
 use lib.ListN.{length-take, length, take, getD}
 use Rattle.wire.specs.Number as Number
 use Rattle.wire.specs.Bytes.{Bytes}
 use Rattle.wire.specs.Parts.{AllAt}
-use Rattle.wire.specs.Walk.{Out, good, refused, readFrom}
 use Rattle.wire.proofs.Determined.{determined}
-use Rattle.wire.proofs.Walk.{read-sound, read-complete, read-fault, each-at}
+use Rattle.wire.proofs.Exactly.{not-too-long}
+use Rattle.wire.proofs.Walk.{read-complete, each-at, read-accepted}
 use Rattle.wire.proofs.Walk as Walk
-use Rattle.wire.specs.Exactly.{Shows, Sound, Complete, Unique}
+use Rattle.wire.specs.Exactly.{Sound, Complete, Unique}
 use Rattle.writing.specs.Write.{lengthOf, writeAnswer, written}
 use Rattle.writing.specs.declared.WriteAnswer.{WriteAnswer}
 use Rattle.writing.specs.declared.WriteAnswer.the-variants.{Written}
@@ -22,9 +20,8 @@ use Rattle.writing.proofs.Answers.{front}
 use Rattle.writing.proofs.Table.{length-parts}
 use Rattle.route_mirroring.specs.Grammar.{Reading, join, Good}
 use Rattle.route_mirroring.specs.Shown.{sizeOf, zeroTlv, places, grammar}
-use Rattle.route_mirroring.specs.Read.{kit, readMirroring, reader}
+use Rattle.route_mirroring.specs.Read.{kit, readMirroring, reader, answer}
 use Rattle.route_mirroring.specs.Write.{writer, kept, readingOf, bytesOf, writable}
-use Rattle.route_mirroring.specs.declared.RouteMirroringTlv.{RouteMirroringTlv}
 use Rattle.route_mirroring.specs.declared.RouteMirroring.{RouteMirroring}
 use Rattle.route_mirroring.specs.declared.RouteMirroringAnswer.{RouteMirroringAnswer}
 use Rattle.route_mirroring.proofs.Laws.{faults, laws, tails}
@@ -35,17 +32,10 @@ use Rattle.route_mirroring.proofs.Converse.{Inside, TwoBytes, bytes-joi
 
 -- What the reader accepts has a good reading that fits, and it shows that reading.
 pub sound : Sound reader
-sound s p e = go (ltb Number.limit (length s)) refl (readFrom kit (length s) 0 s) refl
-  where
-    go : (b : Bool) → ltb Number.limit (length s) ≡ b → (o : Out RouteMirroringTlv) → readFrom kit (length s) 0 s ≡ o → (r : Reading) × Shows reader s r
-    go true h o k = let q : _≡_ {A = ℕ} 1 0 = (rw h at e) in absurd (omega arith)
-    go false h (refused r) k =
-        let f = read-fault kit faults (length s) 0 s r k in
-        let x : r .number ≡ 0 = (rw (h, k) at e) in
-        absurd (omega arith)
-    go false h (good n at table z) k =
-        let a = read-sound kit laws tails 0 s p n at table z k in
-        (record { tlvs = a .0; tail = a .1 }, shows-of s (ltb-false Number.limit (length s) h) (a .0) (a .1) (a .2))
+sound s p e =
+    let n = not-too-long (λ (a : RouteMirroringAnswer). a .refusal .number) _ _ (length s) refl e in
+    let a = read-accepted kit laws tails (λ (x : RouteMirroringAnswer). x .refusal .number) answer faults (λ r. refl) 0 s p (n .1) in
+    (record { tlvs = a .0; tail = a .1 }, shows-of s (n .0) (a .0) (a .1) (a .2))
 
 -- Every good reading that fits is accepted, and shown.
 pub complete : Complete reader

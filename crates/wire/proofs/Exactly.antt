@@ -1,9 +1,14 @@
 -- A reader that is sound, complete and unique in its readings reads exactly its grammar. Assumes nothing.
 use Prim.Native.Nat.{ℕ, _≤_}
-use mathlib.Core.Path.{_≡_, sym, _∙_, ap, subst}
+use mathlib.Core.Path.{_≡_, refl, sym, _∙_, ap, subst}
+use mathlib.Core.Bool.{Bool, true, false}
 use mathlib.Core.List.{List}
+use native.Mathlib.Omega.{arith}
+use borrow.Author.Tests.{ltb-false}
+use lib.Dec.{ltb}
 use lib.ListN.{length}
 use Rattle.wire.specs.Number as Number
+use Rattle.wire.specs.Bytes.{pick}
 use Rattle.wire.specs.Exactly.{ReadingOf, Reader, Sound, Complete, Unique, Exactly}
 
 -- the answer that shows a reading has the number 0
@@ -20,3 +25,12 @@ exactly-from R sound complete unique shown-good =
     shows s h r x =
         ap (R .read) (sym (x .joined))
         ∙ complete r (x .is-good) (x .fits) (subst (λ (z : List ℕ). length z ≤ Number.limit) (sym (x .joined)) h)
+
+-- A reader that judges the length first, and gives 0, was not given too much.
+pub not-too-long : {A : Type 0} (number : A → ℕ) (too-long other : A) (n : ℕ) → number too-long ≡ Number.TooLong
+    → number (pick (ltb Number.limit n) too-long other) ≡ Number.Good → (n ≤ Number.limit) × (number other ≡ Number.Good)
+not-too-long number too-long other n one e = go (ltb Number.limit n) refl e
+  where
+    go : (b : Bool) → ltb Number.limit n ≡ b → number (pick b too-long other) ≡ Number.Good → (n ≤ Number.limit) × (number other ≡ Number.Good)
+    go true h q = let z : _≡_ {A = ℕ} 1 0 = sym one ∙ q in absurd (omega arith)
+    go false h q = (ltb-false Number.limit n h, q)

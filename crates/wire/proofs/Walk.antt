@@ -292,6 +292,19 @@ module _ (K : Kit) {put : K .Item → List ℕ → List ℕ} {G : K .Item → Li
       let t = tails .stops z (y .are-bytes) halt in
       (w .items, tails .tailOf z, read-complete at s (w .items) (tails .tailOf z) (rw (t .1) (y .each)) (t .0) (rw (t .1) (y .joined)) (omega arith))
 
+  -- what a reader has walked over where its number is 0, by how it answers what the walk has found
+  pub read-accepted : {A : Type 0} (number : A → ℕ) (answer : Out (K .Entry) → A) → Faults K → ((r : Refusal) → number (answer (refused r)) ≡ r .number)
+      → (at : ℕ) (s : List ℕ) → Bytes s → number (answer (readFrom K (length s) at s)) ≡ Number.Good
+      → (l : List (K .Item)) × (t : Tail) × Accepts at s l t
+  read-accepted number answer faults numbered at s p e = go (readFrom K (length s) at s) refl
+    where
+      go : (o : Out (K .Entry)) → readFrom K (length s) at s ≡ o → (l : List (K .Item)) × (t : Tail) × Accepts at s l t
+      go (good n end table z) k = read-sound at s p n end table z k
+      go (refused r) k =
+          let f = read-fault K faults (length s) at s r k in
+          let x : r .number ≡ 0 = sym (numbered r) ∙ ap (λ (o : Out (K .Entry)). number (answer o)) (sym k) ∙ e in
+          absurd (omega arith)
+
   -- two good readings with equal joins are equal
   pub unique : (l k : List (K .Item)) (t u : Tail) → EachGood put G l (putTail t) → GoodTail t → EachGood put G k (putTail u) → GoodTail u
       → joinAll put l (putTail t) ≡ joinAll put k (putTail u) → (l ≡ k) × (t ≡ u)
