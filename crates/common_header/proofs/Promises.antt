@@ -12,10 +12,10 @@ use Rattle.wire.specs.Bytes.{pick, Bytes, none}
 use Rattle.wire.proofs.Bytes.{num-lt, bytes-drop, bytes-be, bytes-append}
 use Rattle.wire.proofs.Determined.{determined}
 use Rattle.wire.specs.Exactly.{Sound, Complete, Unique}
-use Rattle.writing.specs.Write.{lengthOf, writeAnswer, written}
+use Rattle.writing.specs.Write.{lengthOf, Wrote}
 use Rattle.writing.specs.declared.WriteAnswer.{WriteAnswer}
 use Rattle.writing.specs.declared.WriteAnswer.the-variants.{Written}
-use Rattle.writing.proofs.Answers.{front}
+use Rattle.writing.proofs.Answers.{front, wrote-determined}
 use Rattle.common_header.specs.Grammar.{Reading, join, Good}
 use Rattle.common_header.specs.Shown.{typeOf, kindOf, shown, refusalOf, stopOf, headerOf, grammar}
 use Rattle.common_header.specs.Read.{partsOf, readCommonHeader, reader}
@@ -103,12 +103,12 @@ reads-back h e =
 
 -- What the writer has written, where the header is writable and there is room, is read back as that header.
 pub round-trip : (h : BmpCommonHeader) (out out′ : List ℕ) (a : WriteAnswer)
-    → a ≡ writeAnswer (writable h) (length (bytesOf h)) (length out) → out′ ≡ written (writable h) (bytesOf h) out
+    → Wrote (writable h) (bytesOf h) out a out′
     → writable h ≡ true → length (bytesOf h) ≤ length out
     → (a ≡ Written (length (bytesOf h))) × ReadsBack h (take (lengthOf a) out′)
-round-trip h out out′ a ea eo w room =
+round-trip h out out′ a wrote w room =
     let n = length-join (readingOf h) in
-    let f = front (writable h) (bytesOf h) out out′ a ea eo w (omega arith) room in
+    let f = front wrote w (omega arith) room in
     (f .answer-is, subst (ReadsBack h) (sym (f .bytes-are)) (reads-back h w))
 
 -- A header whose bytes are read back as itself is writable.
@@ -132,9 +132,8 @@ pub parse-determined : (s : List ℕ) (a b : CommonHeaderAnswer) → a ≡ readC
 parse-determined s a b = determined
 
 pub write-determined : (h : BmpCommonHeader) (out : List ℕ) (a b : WriteAnswer) (o p : List ℕ)
-    → a ≡ writeAnswer (writable h) (length (bytesOf h)) (length out) → b ≡ writeAnswer (writable h) (length (bytesOf h)) (length out)
-    → o ≡ written (writable h) (bytesOf h) out → p ≡ written (writable h) (bytesOf h) out → (a ≡ b) × (o ≡ p)
-write-determined h out a b o p ea eb eo ep = (determined ea eb, determined eo ep)
+    → Wrote (writable h) (bytesOf h) out a o → Wrote (writable h) (bytesOf h) out b p → (a ≡ b) × (o ≡ p)
+write-determined h out a b o p = wrote-determined
 
 pub kind-of-determined : (t : BmpMsgType) (n k : ℕ) → n ≡ kindOf t → k ≡ kindOf t → n ≡ k
 kind-of-determined t n k = determined

@@ -10,11 +10,10 @@ use Rattle.wire.specs.Number as Number
 use Rattle.wire.specs.Refusal.{refusal}
 use Rattle.wire.specs.Bytes.{Bytes}
 use Rattle.wire.proofs.Bytes.{bytes-take, bytes-drop}
-use Rattle.wire.proofs.Determined.{determined}
-use Rattle.writing.specs.Write.{writeAnswer, written, after}
+use Rattle.writing.specs.Write.{after, Wrote}
 use Rattle.writing.specs.declared.WriteAnswer.{WriteAnswer}
 use Rattle.writing.specs.declared.WriteAnswer.the-variants.{Written, Refused}
-use Rattle.writing.proofs.Answers.{does-write}
+use Rattle.writing.proofs.Answers.{does-write, wrote-determined}
 use Rattle.message_answer.specs.Grammar.{HasReading}
 use Rattle.message_answer.proofs.Promises as MessageAnswer
 use Rattle.listing.specs.Listing.{longest, Message, answer, found, text, enough}
@@ -22,21 +21,21 @@ use Rattle.listing.proofs.Lengths.{text-short}
 use Rattle.listing.proofs.Messages.{Stands, Each, Walks, walks, each-so}
 
 -- ---- the answer and the output of list_messages
-module _ (s out out′ : List ℕ) (r : WriteAnswer) (answered : r ≡ writeAnswer true (length (text s)) (length out)) (left : out′ ≡ written true (text s) out) where
+module _ (s out out′ : List ℕ) (r : WriteAnswer) (wrote : Wrote true (text s) out r out′) where
   output : out′ ≡ after r (text s) out
-  output = left ∙ ap (λ (x : WriteAnswer). after x (text s) out) (sym answered)
+  output = wrote .left ∙ ap (λ (x : WriteAnswer). after x (text s) out) (sym (wrote .answered))
 
   -- Where the output has room for the text, the text stands at its start, and nothing past it differs.
   pub lists : length (text s) ≤ length out → (r ≡ Written (length (text s))) × (out′ ≡ text s ++ drop (length (text s)) out)
   lists h =
-      let e : r ≡ Written (length (text s)) = answered ∙ does-write true (length (text s)) (length out) refl (omega (arith, text-short s)) h in
+      let e : r ≡ Written (length (text s)) = wrote .answered ∙ does-write true (length (text s)) (length out) refl (omega (arith, text-short s)) h in
       (e, output ∙ ap (λ (x : WriteAnswer). after x (text s) out) e)
 
   -- Where it has not, the answer is NoRoom and no byte differs: there is no other refusal.
   pub no-room : length out < length (text s) → (r ≡ Refused (refusal Number.NoRoom 0)) × (out′ ≡ out)
   no-room h =
       let e : r ≡ Refused (refusal Number.NoRoom 0) =
-      answered ∙ rw (le-ltb Number.limit (length (text s)) (omega (arith, text-short s)), lt-ltb (length out) (length (text s)) h) in
+      wrote .answered ∙ rw (le-ltb Number.limit (length (text s)) (omega (arith, text-short s)), lt-ltb (length out) (length (text s)) h) in
       (e, output ∙ ap (λ (x : WriteAnswer). after x (text s) out) e)
 
 -- An output of `enough` bytes has room for the listing of any stream, also of one that is too long.
@@ -66,6 +65,5 @@ answer-good s p h = each-so (Stands s) GoodIfRead good 0 (found s .items) (messa
 
 -- ---- any two answers, and any two outputs, that the contract allows are equal
 pub list-determined : (s out : List ℕ) (r q : WriteAnswer) (out′ out″ : List ℕ)
-    → r ≡ writeAnswer true (length (text s)) (length out) → q ≡ writeAnswer true (length (text s)) (length out)
-    → out′ ≡ written true (text s) out → out″ ≡ written true (text s) out → (r ≡ q) × (out′ ≡ out″)
-list-determined s out r q out′ out″ er eq eo eo′ = (determined er eq, determined eo eo′)
+    → Wrote true (text s) out r out′ → Wrote true (text s) out q out″ → (r ≡ q) × (out′ ≡ out″)
+list-determined s out r q out′ out″ = wrote-determined

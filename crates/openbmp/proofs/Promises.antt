@@ -11,10 +11,10 @@ use Rattle.wire.specs.Refusal.{cutAt}
 use Rattle.wire.specs.View.{viewed}
 use Rattle.wire.proofs.Determined.{determined}
 use Rattle.wire.specs.Exactly.{Sound, Complete, Unique}
-use Rattle.writing.specs.Write.{lengthOf, writeAnswer, written}
+use Rattle.writing.specs.Write.{lengthOf, written, Wrote}
 use Rattle.writing.specs.declared.WriteAnswer.{WriteAnswer}
 use Rattle.writing.specs.declared.WriteAnswer.the-variants.{Written}
-use Rattle.writing.proofs.Answers.{front}
+use Rattle.writing.proofs.Answers.{front, wrote-determined}
 use Rattle.layout.specs.Layout.{firstCut}
 use Rattle.layout.proofs.Promises.{FirstLacking, first-lacking}
 use Rattle.openbmp.specs.Grammar.{Reading, join, Good}
@@ -74,11 +74,11 @@ module _ (h : OpenBmpHeader) (b : List ℕ) (t : Typed h) (p : Bytes b) where
 
   -- What the writer has written, where the header is writable and there is room, is read back as the same header. It is never too long.
   pub round-trip : (out out′ : List ℕ) (a : WriteAnswer)
-      → a ≡ writeAnswer (writable h (length b)) (length (bytesOf h b)) (length out) → out′ ≡ written (writable h (length b)) (bytesOf h b) out
+      → Wrote (writable h (length b)) (bytesOf h b) out a out′
       → writable h (length b) ≡ true → length (bytesOf h b) ≤ length out
       → (a ≡ Written (length (bytesOf h b))) × ReadsBack h b (take (lengthOf a) out′)
-  round-trip out out′ a ea eo w room =
-      let f = front (writable h (length b)) (bytesOf h b) out out′ a ea eo w (short-enough h b t p w) room in
+  round-trip out out′ a wrote w room =
+      let f = front wrote w (short-enough h b t p w) room in
       (f .answer-is, subst (ReadsBack h b) (sym (f .bytes-are)) (reads-back w))
 
   -- A header whose views lie inside the buffer, and whose bytes are read back as itself, is writable.
@@ -95,6 +95,5 @@ pub parse-determined : (s : List ℕ) (a b : OpenBmpAnswer) → a ≡ readOpenBm
 parse-determined s a b = determined
 
 pub write-determined : (h : OpenBmpHeader) (b out : List ℕ) (r q : WriteAnswer) (o p : List ℕ)
-    → r ≡ writeAnswer (writable h (length b)) (length (bytesOf h b)) (length out) → q ≡ writeAnswer (writable h (length b)) (length (bytesOf h b)) (length out)
-    → o ≡ written (writable h (length b)) (bytesOf h b) out → p ≡ written (writable h (length b)) (bytesOf h b) out → (r ≡ q) × (o ≡ p)
-write-determined h b out r q o p er eq eo ep = (determined er eq, determined eo ep)
+    → Wrote (writable h (length b)) (bytesOf h b) out r o → Wrote (writable h (length b)) (bytesOf h b) out q p → (r ≡ q) × (o ≡ p)
+write-determined h b out r q o p = wrote-determined

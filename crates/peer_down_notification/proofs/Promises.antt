@@ -10,10 +10,10 @@ use Rattle.wire.specs.Bytes.{be, Bytes, none}
 use Rattle.wire.proofs.Bytes.{bytes-be, bytes-append}
 use Rattle.wire.proofs.Determined.{determined}
 use Rattle.wire.specs.Exactly.{Sound, Complete, Unique}
-use Rattle.writing.specs.Write.{lengthOf, writeAnswer, written}
+use Rattle.writing.specs.Write.{lengthOf, Wrote}
 use Rattle.writing.specs.declared.WriteAnswer.{WriteAnswer}
 use Rattle.writing.specs.declared.WriteAnswer.the-variants.{Written}
-use Rattle.writing.proofs.Answers.{front}
+use Rattle.writing.proofs.Answers.{front, wrote-determined}
 use Rattle.peer_down_notification.specs.Grammar.{Data, Reading, join, Follows}
 use Rattle.peer_down_notification.specs.Shown.{kindOf, shownData, shown, refusalOf, stopOf, notificationOf, viewOf, grammar}
 use Rattle.peer_down_notification.specs.Read.{partsOf, readPeerDown, reader}
@@ -62,11 +62,11 @@ reads-back m b p w short =
 
 -- What the writer has written, where the notification is writable and there is room, is read back as the same notification.
 pub round-trip : (m : PeerDownNotification) (b out out′ : List ℕ) (a : WriteAnswer) → Bytes b
-    → a ≡ writeAnswer (writable m (length b)) (length (bytesOf m b)) (length out) → out′ ≡ written (writable m (length b)) (bytesOf m b) out
+    → Wrote (writable m (length b)) (bytesOf m b) out a out′
     → writable m (length b) ≡ true → length (bytesOf m b) ≤ Number.limit → length (bytesOf m b) ≤ length out
     → (a ≡ Written (length (bytesOf m b))) × ReadsBack m b (take (lengthOf a) out′)
-round-trip m b out out′ a p ea eo w short room =
-    let f = front (writable m (length b)) (bytesOf m b) out out′ a ea eo w short room in
+round-trip m b out out′ a p wrote w short room =
+    let f = front wrote w short room in
     (f .answer-is, subst (ReadsBack m b) (sym (f .bytes-are)) (reads-back m b p w short))
 
 -- A notification whose view lies inside the buffer, and whose bytes are read back as itself, is writable.
@@ -95,6 +95,5 @@ pub parse-determined : (s : List ℕ) (a b : PeerDownAnswer) → a ≡ readPeerD
 parse-determined s a b = determined
 
 pub write-determined : (m : PeerDownNotification) (b out : List ℕ) (r q : WriteAnswer) (o p : List ℕ)
-    → r ≡ writeAnswer (writable m (length b)) (length (bytesOf m b)) (length out) → q ≡ writeAnswer (writable m (length b)) (length (bytesOf m b)) (length out)
-    → o ≡ written (writable m (length b)) (bytesOf m b) out → p ≡ written (writable m (length b)) (bytesOf m b) out → (r ≡ q) × (o ≡ p)
-write-determined m b out r q o p er eq eo ep = (determined er eq, determined eo ep)
+    → Wrote (writable m (length b)) (bytesOf m b) out r o → Wrote (writable m (length b)) (bytesOf m b) out q p → (r ≡ q) × (o ≡ p)
+write-determined m b out r q o p = wrote-determined

@@ -9,10 +9,10 @@ use Rattle.wire.specs.Number as Number
 use Rattle.wire.specs.Bytes.{Bytes}
 use Rattle.wire.proofs.Determined.{determined}
 use Rattle.wire.specs.Exactly.{Sound, Complete, Unique}
-use Rattle.writing.specs.Write.{lengthOf, writeAnswer, written}
+use Rattle.writing.specs.Write.{lengthOf, Wrote}
 use Rattle.writing.specs.declared.WriteAnswer.{WriteAnswer}
 use Rattle.writing.specs.declared.WriteAnswer.the-variants.{Written}
-use Rattle.writing.proofs.Answers.{front}
+use Rattle.writing.proofs.Answers.{front, wrote-determined}
 use Rattle.writing.proofs.Table.{length-parts}
 use Rattle.models.specs.declared.Afi.{Afi}
 use Rattle.peer_type.specs.declared.BmpPeerType.{BmpPeerType}
@@ -57,12 +57,12 @@ views = shows-parts
 -- What the writer has written, where the record is writable and there is room, is read back with its own family as the same record,
 -- whatever type of peer the reader is given.
 pub round-trip : (peer : BmpPeerType) (m : PeerUpNotification) (b out out′ : List ℕ) (a : WriteAnswer) → Bytes b → Typed m
-    → a ≡ writeAnswer (writable m b) (length (bytesOf m b)) (length out) → out′ ≡ written (writable m b) (bytesOf m b) out
+    → Wrote (writable m b) (bytesOf m b) out a out′
     → writable m b ≡ true → length (bytesOf m b) ≤ Number.limit → length (bytesOf m b) ≤ length out
     → (a ≡ Written (length (bytesOf m b))) × ReadsBack peer m b (take (lengthOf a) out′)
-round-trip peer m b out out′ a p t ea eo w short room =
+round-trip peer m b out out′ a p t wrote w short room =
     let afi = m .«local_addr» .afi in
-    let f = front (writable m b) (bytesOf m b) out out′ a ea eo w short room in
+    let f = front wrote w short room in
     let x = writes-of m b w in
     let g = good-of m b p t x in
     let n = length-parts writer b (kept m) ∙ length-take (m .count) (m .tlvs) in
@@ -82,6 +82,5 @@ pub parse-determined : (afi : Afi) (peer : BmpPeerType) (s : List ℕ) (a b : Pe
 parse-determined afi peer s a b = determined
 
 pub write-determined : (m : PeerUpNotification) (b out : List ℕ) (r q : WriteAnswer) (o p : List ℕ)
-    → r ≡ writeAnswer (writable m b) (length (bytesOf m b)) (length out) → q ≡ writeAnswer (writable m b) (length (bytesOf m b)) (length out)
-    → o ≡ written (writable m b) (bytesOf m b) out → p ≡ written (writable m b) (bytesOf m b) out → (r ≡ q) × (o ≡ p)
-write-determined m b out r q o p er eq eo ep = (determined er eq, determined eo ep)
+    → Wrote (writable m b) (bytesOf m b) out r o → Wrote (writable m b) (bytesOf m b) out q p → (r ≡ q) × (o ≡ p)
+write-determined m b out r q o p = wrote-determined

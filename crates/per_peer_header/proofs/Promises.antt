@@ -13,10 +13,10 @@ use Rattle.wire.proofs.Bytes.{num-lt, bytes-drop, number-is}
 use Rattle.wire.proofs.Views.{octets-part}
 use Rattle.wire.proofs.Determined.{determined}
 use Rattle.wire.specs.Exactly.{Sound, Complete, Unique}
-use Rattle.writing.specs.Write.{lengthOf, writeAnswer, written}
+use Rattle.writing.specs.Write.{lengthOf, Wrote}
 use Rattle.writing.specs.declared.WriteAnswer.{WriteAnswer}
 use Rattle.writing.specs.declared.WriteAnswer.the-variants.{Written}
-use Rattle.writing.proofs.Answers.{front}
+use Rattle.writing.proofs.Answers.{front, wrote-determined}
 use Rattle.layout.specs.Layout.{firstCut}
 use Rattle.layout.proofs.Promises.{FirstLacking, first-lacking}
 use Rattle.peer.specs.declared.BmpPerPeerHeader.{BmpPerPeerHeader}
@@ -121,12 +121,12 @@ reads h t = let g = good-reading h t in complete (readingOf h) g tt (omega (arit
 
 -- What the writer has written, where the header is writable and there is room, is read back as that header.
 pub round-trip : (h : BmpPerPeerHeader) → Typed h → (out out′ : List ℕ) (a : WriteAnswer)
-    → a ≡ writeAnswer (writable h) (length (bytesOf h)) (length out) → out′ ≡ written (writable h) (bytesOf h) out
+    → Wrote (writable h) (bytesOf h) out a out′
     → writable h ≡ true → length (bytesOf h) ≤ length out
     → (a ≡ Written (length (bytesOf h))) × ReadsBack h (take (lengthOf a) out′)
-round-trip h t out out′ a ea eo w room =
+round-trip h t out out′ a wrote w room =
     let n = length-join (readingOf h) (good-reading h t) in
-    let f = front (writable h) (bytesOf h) out out′ a ea eo w (omega arith) room in
+    let f = front wrote w (omega arith) room in
     let r = reads h t in
     let back : ReadsBack h (bytesOf h) =
     record {
@@ -145,6 +145,5 @@ pub parse-determined : (s : List ℕ) (a b : PerPeerHeaderAnswer) → a ≡ read
 parse-determined s a b = determined
 
 pub write-determined : (h : BmpPerPeerHeader) (out : List ℕ) (a b : WriteAnswer) (o p : List ℕ)
-    → a ≡ writeAnswer (writable h) (length (bytesOf h)) (length out) → b ≡ writeAnswer (writable h) (length (bytesOf h)) (length out)
-    → o ≡ written (writable h) (bytesOf h) out → p ≡ written (writable h) (bytesOf h) out → (a ≡ b) × (o ≡ p)
-write-determined h out a b o p ea eb eo ep = (determined ea eb, determined eo ep)
+    → Wrote (writable h) (bytesOf h) out a o → Wrote (writable h) (bytesOf h) out b p → (a ≡ b) × (o ≡ p)
+write-determined h out a b o p = wrote-determined

@@ -12,10 +12,10 @@ use Rattle.wire.specs.View.{view, viewed}
 use Rattle.wire.proofs.Views.{viewed-inside, length-part, bytes-viewed}
 use Rattle.wire.proofs.Determined.{determined}
 use Rattle.wire.specs.Exactly.{Sound, Complete, Unique}
-use Rattle.writing.specs.Write.{lengthOf, writeAnswer, written}
+use Rattle.writing.specs.Write.{lengthOf, Wrote}
 use Rattle.writing.specs.declared.WriteAnswer.{WriteAnswer}
 use Rattle.writing.specs.declared.WriteAnswer.the-variants.{Written}
-use Rattle.writing.proofs.Answers.{front}
+use Rattle.writing.proofs.Answers.{front, wrote-determined}
 use Rattle.models.specs.declared.AsnLength.{AsnLength}
 use Rattle.peer_type.specs.declared.BmpPeerType.{BmpPeerType}
 use Rattle.route_monitoring.specs.Grammar.{Reading, join, Good}
@@ -83,11 +83,11 @@ reads-back width t m b w short =
 
 -- What the writer has written, where the message is writable and there is room, is read back as the same message.
 pub round-trip : (m : RouteMonitoring) (b out out′ : List ℕ) (a : WriteAnswer)
-    → a ≡ writeAnswer (writable m (length b)) (length (bytesOf m b)) (length out) → out′ ≡ written (writable m (length b)) (bytesOf m b) out
+    → Wrote (writable m (length b)) (bytesOf m b) out a out′
     → writable m (length b) ≡ true → length (bytesOf m b) ≤ Number.limit → length (bytesOf m b) ≤ length out
     → (width : AsnLength) (t : BmpPeerType) → (a ≡ Written (length (bytesOf m b))) × ReadsBack width t m b (take (lengthOf a) out′)
-round-trip m b out out′ a ea eo w short room width t =
-    let f = front (writable m (length b)) (bytesOf m b) out out′ a ea eo w short room in
+round-trip m b out out′ a wrote w short room width t =
+    let f = front wrote w short room in
     (f .answer-is, subst (ReadsBack width t m b) (sym (f .bytes-are)) (reads-back width t m b w short))
 
 -- A message whose view lies inside the buffer, and whose bytes are read back as itself, is writable.
@@ -112,6 +112,5 @@ pub parse-determined : (s : List ℕ) (width : AsnLength) (t : BmpPeerType) (a b
 parse-determined s width t a b = determined
 
 pub write-determined : (m : RouteMonitoring) (b out : List ℕ) (r q : WriteAnswer) (o p : List ℕ)
-    → r ≡ writeAnswer (writable m (length b)) (length (bytesOf m b)) (length out) → q ≡ writeAnswer (writable m (length b)) (length (bytesOf m b)) (length out)
-    → o ≡ written (writable m (length b)) (bytesOf m b) out → p ≡ written (writable m (length b)) (bytesOf m b) out → (r ≡ q) × (o ≡ p)
-write-determined m b out r q o p er eq eo ep = (determined er eq, determined eo ep)
+    → Wrote (writable m (length b)) (bytesOf m b) out r o → Wrote (writable m (length b)) (bytesOf m b) out q p → (r ≡ q) × (o ≡ p)
+write-determined m b out r q o p = wrote-determined

@@ -15,10 +15,10 @@ use Rattle.wire.proofs.Bytes.{num-lt, num-back}
 use Rattle.wire.proofs.Determined.{determined}
 use Rattle.wire.proofs.Walk.{read-fault, counted-sound, counted-complete, counted-unique, each-at}
 use Rattle.wire.specs.Exactly.{Shows, Sound, Complete, Unique}
-use Rattle.writing.specs.Write.{lengthOf, writeAnswer, written}
+use Rattle.writing.specs.Write.{lengthOf, Wrote}
 use Rattle.writing.specs.declared.WriteAnswer.{WriteAnswer}
 use Rattle.writing.specs.declared.WriteAnswer.the-variants.{Written}
-use Rattle.writing.proofs.Answers.{front}
+use Rattle.writing.proofs.Answers.{front, wrote-determined}
 use Rattle.stats_report.specs.Grammar.{Reading, join, Good}
 use Rattle.stats_report.specs.Shown.{zeroCounter, places, sizeOf, grammar}
 use Rattle.stats_report.specs.Read.{kit, readStats, reader}
@@ -81,11 +81,11 @@ views r g = each-at kit laws (ViewAt (join r)) (join r) (view-at (join r)) (r .s
 
 -- What the writer has written, where the record is writable and there is room, is read back as the same record.
 pub round-trip : (m : StatsReport) (b out out′ : List ℕ) (a : WriteAnswer) → Bytes b → length (m .counters) ≡ places
-    → a ≡ writeAnswer (writable m (length b)) (length (bytesOf m b)) (length out) → out′ ≡ written (writable m (length b)) (bytesOf m b) out
+    → Wrote (writable m (length b)) (bytesOf m b) out a out′
     → writable m (length b) ≡ true → length (bytesOf m b) ≤ Number.limit → length (bytesOf m b) ≤ length out
     → (a ≡ Written (length (bytesOf m b))) × ReadsBack m b (take (lengthOf a) out′)
-round-trip m b out out′ a p long ea eo w short room =
-    let f = front (writable m (length b)) (bytesOf m b) out out′ a ea eo w short room in
+round-trip m b out out′ a p long wrote w short room =
+    let f = front wrote w short room in
     let x = writes-of m (length b) w in
     let g = good-of m b p long x in
     let a = complete (readingOf m b) g (omega (arith, parts-count m b long (x .few), x .few)) short in
@@ -104,6 +104,5 @@ pub parse-determined : (s : List ℕ) (a b : StatsAnswer) → a ≡ readStats s 
 parse-determined s a b = determined
 
 pub write-determined : (m : StatsReport) (b out : List ℕ) (r q : WriteAnswer) (o p : List ℕ)
-    → r ≡ writeAnswer (writable m (length b)) (length (bytesOf m b)) (length out) → q ≡ writeAnswer (writable m (length b)) (length (bytesOf m b)) (length out)
-    → o ≡ written (writable m (length b)) (bytesOf m b) out → p ≡ written (writable m (length b)) (bytesOf m b) out → (r ≡ q) × (o ≡ p)
-write-determined m b out r q o p er eq eo ep = (determined er eq, determined eo ep)
+    → Wrote (writable m (length b)) (bytesOf m b) out r o → Wrote (writable m (length b)) (bytesOf m b) out q p → (r ≡ q) × (o ≡ p)
+write-determined m b out r q o p = wrote-determined

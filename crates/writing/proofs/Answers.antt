@@ -12,7 +12,8 @@ use lib.Seq.{sets, sets-eq, take-at}
 use Rattle.wire.specs.Number as Number
 use Rattle.wire.specs.Bytes.{pick}
 use Rattle.wire.specs.Refusal.{refusal}
-use Rattle.writing.specs.Write.{lengthOf, writeAnswer, after, written}
+use Rattle.wire.proofs.Determined.{determined}
+use Rattle.writing.specs.Write.{lengthOf, writeAnswer, after, written, Wrote}
 use Rattle.wire.specs.declared.Refusal.{Refusal}
 use Rattle.writing.specs.declared.WriteAnswer.{WriteAnswer}
 use Rattle.writing.specs.declared.WriteAnswer.the-variants.{Written, Refused}
@@ -66,13 +67,12 @@ pub record Front (s out′ : List ℕ) (r : WriteAnswer) : Type 0 where
   pub answer-is : r ≡ Written (length s)
   pub bytes-are : take (lengthOf r) out′ ≡ s
 
-pub front : (ok : Bool) (s out out′ : List ℕ) (r : WriteAnswer)
-    → r ≡ writeAnswer ok (length s) (length out) → out′ ≡ written ok s out
+pub front : {ok : Bool} {s out out′ : List ℕ} {r : WriteAnswer} → Wrote ok s out r out′
     → ok ≡ true → length s ≤ Number.limit → length s ≤ length out → Front s out′ r
-front ok s out out′ r er eo w short fits =
+front {ok} {s} {out} {out′} {r} wrote w short fits =
     let a : writeAnswer ok (length s) (length out) ≡ Written (length s) = does-write ok (length s) (length out) w short fits in
-    let e : r ≡ Written (length s) = er ∙ a in
-    let o : out′ ≡ s ++ drop (length s) out = eo ∙ ap (λ (x : WriteAnswer). after x s out) a in
+    let e : r ≡ Written (length s) = wrote .answered ∙ a in
+    let o : out′ ≡ s ++ drop (length s) out = wrote .left ∙ ap (λ (x : WriteAnswer). after x s out) a in
     record {
       answer-is = e;
       bytes-are = rw (e, o) (take-at s (drop (length s) out) (length s) refl);
@@ -82,3 +82,7 @@ front ok s out out′ r er eo w short fits =
 pub refused-so : (ok : Bool) (s out : List ℕ) → ok ≡ false → (a : WriteAnswer) → a ≡ writeAnswer false 0 (length out)
     → (a ≡ writeAnswer ok (length s) (length out)) × (out ≡ written ok s out)
 refused-so ok s out e a asked = (asked ∙ sym (rw e), rw e)
+
+-- ---- any two answers, and any two outputs, of one writer for the same record and output
+pub wrote-determined : {ok : Bool} {s out : List ℕ} {r q : WriteAnswer} {o p : List ℕ} → Wrote ok s out r o → Wrote ok s out q p → (r ≡ q) × (o ≡ p)
+wrote-determined x y = (determined (x .answered) (y .answered), determined (x .left) (y .left))

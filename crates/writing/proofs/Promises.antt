@@ -12,7 +12,7 @@ use Rattle.wire.specs.Number as Number
 use Rattle.wire.specs.Refusal.{refusal}
 use Rattle.wire.specs.declared.View.{View}
 use Rattle.wire.proofs.Determined.{determined}
-use Rattle.writing.specs.Write.{putAt, tlvFits, refusalOf, lengthOf, writeAnswer, after, written}
+use Rattle.writing.specs.Write.{putAt, tlvFits, refusalOf, lengthOf, writeAnswer, after, Wrote}
 use Rattle.writing.specs.declared.WriteAnswer.{WriteAnswer}
 use Rattle.writing.specs.declared.WriteAnswer.the-variants.{Written, Refused}
 use Rattle.writing.proofs.Sets.{put-fits, put-nothing}
@@ -48,13 +48,13 @@ put-all-or-nothing out at b = (all, nothing b)
 
 -- ---- a writer of the bytes s, whose record is writable or not
 module _ (ok : Bool) (s out out′ : List ℕ) (r : WriteAnswer)
-    (answered : r ≡ writeAnswer ok (length s) (length out)) (left : out′ ≡ written ok s out) where
+    (wrote : Wrote ok s out r out′) where
   output : out′ ≡ after r s out
-  output = left ∙ ap (λ (x : WriteAnswer). after x s out) (sym answered)
+  output = wrote .left ∙ ap (λ (x : WriteAnswer). after x s out) (sym (wrote .answered))
 
   -- What stands behind the length that a writer answers is as it was, all of the output where it refuses.
   pub nothing-past-the-length : drop (lengthOf r) out′ ≡ drop (lengthOf r) out
-  nothing-past-the-length = ap (drop (lengthOf r)) output ∙ go r answered
+  nothing-past-the-length = ap (drop (lengthOf r)) output ∙ go r (wrote .answered)
     where
       go : (a : WriteAnswer) → a ≡ writeAnswer ok (length s) (length out) → drop (lengthOf a) (after a s out) ≡ drop (lengthOf a) out
       go (Written k) e = rw (writes ok (length s) (length out) k e .length-is) (drop-at s (drop (length s) out) (length s) refl)

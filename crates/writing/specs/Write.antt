@@ -1,5 +1,6 @@
 -- What every writer answers, and what stands in the output afterwards (docs/RULES.md, "Writers").
 use Prim.Native.Nat.{ℕ, _^_}
+use mathlib.Core.Path.{_≡_}
 use mathlib.Core.Bool.{Bool, true, false}
 use mathlib.Core.List.{List, _++_}
 use lib.ListN.{length, drop}
@@ -42,6 +43,11 @@ after (Refused r) s out = out
 
 abbrev pub written : Bool → List ℕ → List ℕ → List ℕ
 written ok s out = after (writeAnswer ok (length s) (length out)) s out
+
+-- what every writer's contract says of its answer and of the output, by whether the record is writable and the bytes s that it would write
+pub record Wrote (ok : Bool) (s out : List ℕ) (answer : WriteAnswer) (out′ : List ℕ) : Type 0 where
+  pub answered : answer ≡ writeAnswer ok (length s) (length out)
+  pub left : out′ ≡ written ok s out
 
 -- the bytes of a TLV: type, length, value
 abbrev pub tlvBytes : ℕ → ℕ → List ℕ → List ℕ
