@@ -37,32 +37,24 @@ flag-set k byte h = sym (masked k byte) ∙ ap not (ne-eqb (bitAnd byte (2 ^ (1 
 pub flag-clear : (k byte : ℕ) → bitAnd byte (2 ^ (1 + k) - 2 ^ k) ≡ 0 → flag (2 ^ k) byte ≡ false
 flag-clear k byte h = sym (masked k byte) ∙ ap not (eq-eqb (bitAnd byte (2 ^ (1 + k) - 2 ^ k)) 0 h)
 
--- ---- and what it says
+-- ---- and what it says, told back from which of two names it has given
+first-told : {A : Type 0} {x y : A} → (x ≡ y → false ≡ true) → (b : Bool) → x ≡ pick b x y → b ≡ true
+first-told differ true e = refl
+first-told differ false e = differ e
+
+second-told : {A : Type 0} {x y : A} → (y ≡ x → true ≡ false) → (b : Bool) → y ≡ pick b x y → b ≡ false
+second-told differ true e = differ e
+second-told differ false e = refl
+
 module _ (flags : ℕ) where
   pub ipv6-flag : Ipv6 ≡ addressFamily flags → flagV flags ≡ true
-  ipv6-flag e = go (flagV flags) e
-    where
-      go : (b : Bool) → Ipv6 ≡ pick b Ipv6 Ipv4 → b ≡ true
-      go true q = refl
-      go false q = cc
+  ipv6-flag = first-told (λ e. cc) (flagV flags)
 
   pub ipv4-flag : Ipv4 ≡ addressFamily flags → flagV flags ≡ false
-  ipv4-flag e = go (flagV flags) e
-    where
-      go : (b : Bool) → Ipv4 ≡ pick b Ipv6 Ipv4 → b ≡ false
-      go true q = cc
-      go false q = refl
+  ipv4-flag = second-told (λ e. cc) (flagV flags)
 
   pub bits16-flag : Bits16 ≡ asnLength flags → flagA flags ≡ true
-  bits16-flag e = go (flagA flags) e
-    where
-      go : (b : Bool) → Bits16 ≡ pick b Bits16 Bits32 → b ≡ true
-      go true q = refl
-      go false q = cc
+  bits16-flag = first-told (λ e. cc) (flagA flags)
 
   pub bits32-flag : Bits32 ≡ asnLength flags → flagA flags ≡ false
-  bits32-flag e = go (flagA flags) e
-    where
-      go : (b : Bool) → Bits32 ≡ pick b Bits16 Bits32 → b ≡ false
-      go true q = cc
-      go false q = refl
+  bits32-flag = second-told (λ e. cc) (flagA flags)
