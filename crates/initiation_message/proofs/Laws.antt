@@ -2,20 +2,17 @@
 use mathlib.Core.Path.{_≡_, ap, _∙_, subst}
 use mathlib.Core.List.{List, []}
 use mathlib.Core.Logic.{inl}
-use Prim.Native.Nat.{ℕ, _+_, _≤_, _<_}
+use Prim.Native.Nat.{ℕ, _≤_, _<_}
 use native.Mathlib.Omega.{arith}
-use lib.ListN.{length, drop, set}
-use Rattle.wire.specs.Number as Number
-use Rattle.wire.specs.Refusal.{refusal}
+use lib.ListN.{length, drop}
 use Rattle.wire.specs.Tlv.{Tlv, putTlv, sizeOf, Tail, putTail, GoodTail}
 use Rattle.wire.specs.TlvAt.{tlvOf, tailOf}
 use Rattle.wire.specs.Walk.{item}
 use Rattle.cursor.specs.declared.Cursor.{Cursor}
 use Rattle.wire.proofs.Tlv.{tlv-there, tlv-join, tlv-rest, tlv-parts, tail-none, tail-join, tail-parts}
-use Rattle.wire.proofs.Walk.{Takes, Faults, Laws, Tails, onwards, turn}
+use Rattle.wire.proofs.Walk.{Takes, Faults, Laws, Tails, TurnTo, turn-to}
 use Rattle.initiation_message.specs.Grammar.{ReadTlv}
-use Rattle.initiation_message.specs.Shown.{refusedAnswer, places}
-use Rattle.initiation_message.specs.Read.{stepAt, kit, answer}
+use Rattle.initiation_message.specs.Read.{stepAt, kit}
 use Rattle.initiation_message.specs.declared.InitiationTlv.{InitiationTlv}
 use Rattle.initiation_message.specs.declared.Step.the-variants.{Whole}
 use Rattle.initiation_message.proofs.Steps.{none, whole, see, of, found, stopped, no-fault, was-whole}
@@ -23,7 +20,7 @@ use Rattle.initiation_message.proofs.Steps.{none, whole, see, of, found
 pub faults : Faults kit
 faults s r e = absurd (no-fault s r (see s) e)
 
-takes : Takes kit
+pub takes : Takes kit
 takes s t e =
     let f = found s t (see s) e in
     subst (λ (u : Tlv). (0 < sizeOf u) × (sizeOf u ≤ length s)) (f .is) (omega (arith, f .long, f .there))
@@ -54,20 +51,6 @@ tails =
     }
 
 -- ---- a turn of the reader's loop that finds a TLV
-pub record Onward (n at : ℕ) (table : List InitiationTlv) (s : List ℕ) (u : InitiationTlv) (c : Cursor) : Type 0 where
-  pub moved : at < c .at
-  pub within : c .at ≤ length s
-  pub full : places ≤ n → answer (onwards kit n at table s) ≡ refusedAnswer (refusal Number.TooMany at)
-  pub room : n < places → answer (onwards kit n at table s) ≡ answer (onwards kit (n + 1) (c .at) (set table n u) s)
-
 pub onward : (n at : ℕ) (table : List InitiationTlv) (s : List ℕ) (u : InitiationTlv) (c : Cursor) → n ≤ at → at ≤ length s → stepAt s at ≡ Whole u c
-    → Onward n at table s u c
-onward n at table s u c few h e =
-    let w = was-whole at u c (drop at s) e in
-    let o = turn kit takes n at table s (w .0) few h (w .1) in
-    record {
-      moved = rw (← w .3) (o .moved);
-      within = rw (← w .3) (o .within);
-      full = λ l. ap answer (o .full l);
-      room = λ l. ap answer (o .room l) ∙ rw (w .2, w .3);
-    }
+    → TurnTo kit takes n at table s u (c .at)
+onward n at table s u c few h e = let w = was-whole at u c (drop at s) e in turn-to kit takes n at table s (w .0) u (c .at) few h (w .1) (w .2) (w .3)

@@ -1,33 +1,30 @@
 -- A record that was written and is read again. Assumes nothing.
 use mathlib.Core.Path.{_≡_, refl, sym, ap, _∙_, subst}
-use mathlib.Core.Bool.{true}
-use mathlib.Core.List.{List, [], _∷_}
+use mathlib.Core.Bool.{true, false}
+use mathlib.Core.List.{List}
 use Prim.Native.Nat.{ℕ, zero, suc, _≤_}
 use native.Mathlib.Omega.{arith}
-use lib.ListN.{length, getD}
-use lib.Seq.{getD-take, length-take-le}
+use lib.ListN.{length}
+use lib.Seq.{length-take-le}
 use Rattle.wire.specs.Number as Number
 use Rattle.wire.specs.Bytes.{Bytes, none}
 use Rattle.wire.specs.Parts.{AllAt}
 use Rattle.wire.specs.Tlv.{sizeOf}
 use Rattle.wire.proofs.Tlv.{tlv-length}
-use Rattle.writing.specs.Table.{joined, allOk, sizes}
+use Rattle.writing.specs.Table.{joined, allOk}
 use Rattle.writing.proofs.Tlv.{tlv-good}
-use Rattle.writing.proofs.Table.{length-joined, all-good, length-parts}
-use Rattle.writing.proofs.Trip.{each-same, end-sizes}
+use Rattle.writing.proofs.Table.{all-good, length-parts, length-sizes, Kept}
+use Rattle.writing.proofs.Trip.{table-same, end-sizes}
+use Rattle.tlv_table.proofs.Translated.{length-translated}
 use Rattle.initiation_message.specs.Grammar.{ReadTlv, Good}
 use Rattle.initiation_message.specs.Shown.{typeOf, kindOf, zeroTlv, places, entry, shown}
 use Rattle.initiation_message.specs.Read.{readInitiation}
-use Rattle.initiation_message.specs.Write.{partOf, tlvWritable, writer, kept, readingOf, bytesOf, SameTlv, Same}
+use Rattle.initiation_message.specs.Write.{partOf, tlvWritable, writer, kept, readingOf, bytesOf, entryOf, SameTlv, Same}
 use Rattle.initiation_message.specs.declared.InitiationTlv.{InitiationTlv}
 use Rattle.initiation_message.specs.declared.InitiationMessage.{InitiationMessage}
 use Rattle.initiation_message.specs.declared.InitiationAnswer.{InitiationAnswer}
-use Rattle.initiation_message.proofs.Written.{fine-of, bodied, Writes}
+use Rattle.initiation_message.proofs.Written.{fine-of, translates}
 use Rattle.initiation_message.proofs.Shows.{ViewAt}
-
-length-sizes : (l : List InitiationTlv) → length l ≤ sizes writer l
-length-sizes [] = omega arith
-length-sizes (t ∷ l) = let h = length-sizes l in omega arith
 
 read-tlv : (b : List ℕ) → Bytes b → (t : InitiationTlv) (l : List InitiationTlv) → tlvWritable (length b) (length l) t ≡ true → allOk writer (length b) l ≡ true
     → ReadTlv (partOf b t) (joined writer b l)
@@ -36,7 +33,7 @@ read-tlv b p t l e w =
     let g = tlv-good _ _ _ b (f .fits) p in
     record {
       well-formed = g;
-      more-than-four = omega (arith, tlv-length (partOf b t) (joined writer b l) g, length-joined writer bodied b l w, length-sizes l, f .not-last-empty);
+      more-than-four = omega (arith, tlv-length (partOf b t) (joined writer b l) g, length-translated writer 0 false entryOf translates b l w, length-sizes writer (λ u. omega arith) l, f .not-last-empty);
     }
 
 pub good-of : (m : InitiationMessage) (b : List ℕ) → Bytes b → allOk writer (length b) (kept m) ≡ true → Good (readingOf m b)
@@ -60,22 +57,18 @@ pub record ReadsBack (m : InitiationMessage) (b s : List ℕ) : Type 0 where
   pub whole : readInitiation s .stop ≡ length s
   pub same : Same m b (readInitiation s .message) s
 
-pub reads-back : (m : InitiationMessage) (b : List ℕ) → length (m .tlvs) ≡ places → Writes m (length b)
+pub reads-back : (m : InitiationMessage) (b : List ℕ) → length (m .tlvs) ≡ places → Kept writer places (m .count) (m .tlvs) (length b)
     → readInitiation (bytesOf m b) ≡ shown (readingOf m b) → AllAt sizeOf (ViewAt (bytesOf m b)) 0 (readingOf m b .tlvs)
     → ReadsBack m b (bytesOf m b)
 reads-back m b long x a v =
     let s = bytesOf m b in
-    let k : length (kept m) ≡ m .count = length-take-le (m .count) (m .tlvs) (omega (arith, long, x .few)) in
-    let n : length (readingOf m b .tlvs) ≡ m .count = length-parts writer b (kept m) ∙ k in
+    let few : m .count ≤ length (m .tlvs) = omega (arith, long, x .few) in
     record {
       read-good = ap (λ (y : InitiationAnswer). y .refusal .number) a;
       whole = ap (λ (y : InitiationAnswer). y .stop) a ∙ end-sizes writer sizeOf entry (ViewAt s) b (λ n t o. refl) (kept m) 0 (x .fine)
-          ∙ omega (arith, length-joined writer bodied b (kept m) (x .fine));
+          ∙ omega (arith, length-translated writer 0 false entryOf translates b (kept m) (x .fine));
       same = subst (λ (y : InitiationAnswer). Same m b (y .message) s) (sym a) (record {
-        count-same = sym n;
-        tlv-same = λ i h.
-            subst (λ (t : InitiationTlv). SameTlv t b (getD (shown (readingOf m b) .message .tlvs) i zeroTlv) s)
-            (getD-take (m .count) (m .tlvs) i zeroTlv h)
-            (each-same writer sizeOf entry (ViewAt s) b (λ t u. SameTlv t b u s) zeroTlv (same-tlv b s) _ (kept m) 0 i (x .fine) v (omega (arith, k, h)));
+        count-same = sym (length-parts writer b (kept m) ∙ length-take-le (m .count) (m .tlvs) few);
+        tlv-same = table-same writer sizeOf entry (ViewAt s) b (λ t u. SameTlv t b u s) zeroTlv (same-tlv b s) _ (m .tlvs) (m .count) few (x .fine) v;
       });
     }

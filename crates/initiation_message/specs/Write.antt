@@ -1,15 +1,18 @@
 -- What the writer writes: the reading of a record, by the grammar's own parts; which records are writable; when two are the same.
 use Prim.Native.Nat.{ℕ, _+_, _<_}
 use mathlib.Core.Path.{_≡_}
-use mathlib.Core.Bool.{Bool, true, false}
-use mathlib.Core.List.{List, []}
+use mathlib.Core.Bool.{Bool, false}
+use mathlib.Core.List.{List, [], map}
 use lib.ListN.{take, getD}
 use lib.Dec.{ltb}
 use Rattle.wire.specs.Bytes.{pick}
 use Rattle.wire.specs.View.{viewed}
 use Rattle.wire.specs.Tlv.{Tlv, putTlv, short}
-use Rattle.writing.specs.Write.{tlvBytes, tlvFits}
+use Rattle.writing.specs.Write.{walkedTlvFits}
 use Rattle.writing.specs.Table.{Writer, parts, allOk}
+use Rattle.tlv_table.specs.declared.TlvValue.the-variants.{Part}
+use Rattle.tlv_table.specs.declared.TlvEntry.{TlvEntry}
+use Rattle.tlv_table.specs.declared.TlvTable.{TlvTable}
 use Rattle.initiation_message.specs.Grammar.{Reading, join}
 use Rattle.initiation_message.specs.Shown.{kindOf, zeroTlv, places}
 use Rattle.initiation_message.specs.declared.InitiationTlv.{InitiationTlv}
@@ -25,8 +28,7 @@ partOf b t = record { kind = kindOf (t .«info_type»); size = t .«info_len»; 
 -- ---- a TLV is writable, by the buffer's length and the number of TLVs after it: it can be written from its view, and it is not a
 -- last one of length 0, which the reader would take for a tail
 unfoldable pub tlvWritable : ℕ → ℕ → InitiationTlv → Bool
-tlvWritable room after t =
-    pick (tlvFits (kindOf (t .«info_type»)) (t .«info_len») (t .info) room) (pick (ltb 0 (t .«info_len»)) true (ltb 0 after)) false
+tlvWritable room after t = walkedTlvFits (kindOf (t .«info_type»)) (t .«info_len») (t .info) room after
 
 abbrev pub writer : Writer
 writer =
@@ -38,10 +40,6 @@ writer =
       ok = tlvWritable;
       size = λ t. 4 + t .«info_len»;
     }
-
--- the bytes of one TLV alone
-abbrev pub oneTlv : List ℕ → InitiationTlv → List ℕ
-oneTlv b t = tlvBytes (kindOf (t .«info_type»)) (t .«info_len») (valueOf b t)
 
 -- ---- the whole record: its entries below the count, and no tail
 abbrev pub kept : InitiationMessage → List InitiationTlv
@@ -55,6 +53,13 @@ bytesOf m b = join (readingOf m b)
 
 abbrev pub writable : InitiationMessage → ℕ → Bool
 writable m room = pick (ltb places (m .count)) false (allOk writer room (kept m))
+
+-- ---- the table of TLVs that is written for a record
+abbrev pub entryOf : InitiationTlv → TlvEntry
+entryOf t = record { kind = kindOf (t .«info_type»); size = t .«info_len»; value = Part (t .info) }
+
+abbrev pub tableOf : InitiationMessage → TlvTable
+tableOf m = record { tlvs = map entryOf (m .tlvs); count = m .count; least = 0; «empty_last» = false }
 
 -- ---- two records are the same: their numbers below the count, and the bytes that their views show, each in its own buffer
 pub record SameTlv (t : InitiationTlv) (b : List ℕ) (u : InitiationTlv) (s : List ℕ) : Type 0 where

@@ -1,20 +1,19 @@
 // The body of a BMP Initiation message (RFC 7854, section 4.3).
 use cursor::Cursor;
 use cursor::ReadU16;
+use tlv_table::TlvEntry;
+use tlv_table::TlvTable;
+use tlv_table::TlvValue;
 use wire::Refusal;
 use wire::View;
 use writing::WriteAnswer;
 ghost use mathlib.Core.Path.{_≡_};
-ghost use mathlib.Core.Bool.{true};
-ghost use Prim.Native.Nat.{_+_, _≤_};
 ghost use lib.ListN.{length};
-ghost use lib.Seq.{sets};
 ghost use Rattle.wire.specs.Refusal.{refusal};
-ghost use Rattle.writing.specs.Write.{putAt, writeAnswer, written};
-ghost use Rattle.writing.specs.Table.{sizes};
+ghost use Rattle.writing.specs.Write.{writeAnswer, written};
 ghost use Rattle.initiation_message.specs.Shown.{typeOf, kindOf, zeroTlv, refusedAnswer};
 ghost use Rattle.initiation_message.specs.Read.{stepAt, readInitiation};
-ghost use Rattle.initiation_message.specs.Write.{tlvWritable, writer, oneTlv, kept, bytesOf, writable};
+ghost use Rattle.initiation_message.specs.Write.{entryOf, tableOf, bytesOf, writable};
 
 pub enum InitiationTlvType {
     String,
@@ -172,95 +171,40 @@ pub fn write_initiation_message(
     ensures { λ r. ⌜ r ≡ writeAnswer (writable message (length (now (buffer .entry)))) (length (bytesOf message (now (buffer .entry)))) (length (now (out .entry))) ⌝ }
     ensures { λ _. ⌜ now (out .exit) ≡ written (writable message (length (now (buffer .entry)))) (bytesOf message (now (buffer .entry))) (now (out .entry)) ⌝ }
 {
-    if !is_writable(message, buffer.len()) {
-        return writing::write_answer(false, 0, out.len());
-    }
-    let answer = writing::write_answer(true, written_length(message), out.len());
-    let WriteAnswer::Written(_) = answer else {
-        return answer;
-    };
-    put_tlvs(message, buffer, out);
-    answer
+    tlv_table::write_tlvs(table_of(message), 0, true, buffer, out)
 }
 
-fn is_writable(message: InitiationMessage, room: usize) -> bool
-    ensures { λ r. ⌜ r ≡ writable message room ⌝ }
+// The last TLV must not be empty: the reader would take it for a tail.
+fn table_of(message: InitiationMessage) -> TlvTable
+    ensures { λ r. ⌜ r ≡ tableOf message ⌝ }
 {
-    let count = message.count;
-    if 32 < count {
-        return false;
-    }
+    let first = message.tlvs[0];
+    let none = entry_of(first);
+    let mut tlvs = [none; 32];
     let mut i: usize = 0;
-    while i < count {
+    while i < 32 {
         let tlv = message.tlvs[i];
-        if !tlv_writable(tlv, room, count - i - 1) {
-            return false;
-        }
+        tlvs[i] = entry_of(tlv);
         i += 1;
     }
-    true
-}
-
-fn tlv_writable(tlv: InitiationTlv, room: usize, after: usize) -> bool
-    ensures { λ r. ⌜ r ≡ tlvWritable room after tlv ⌝ }
-{
-    let kind = tlv.info_type;
-    let size = tlv.info_len;
-    let view = tlv.info;
-    if !writing::tlv_fits(kind_of(kind), size, view, room) {
-        return false;
-    }
-    if 0 < size {
-        return true;
-    }
-    0 < after
-}
-
-fn written_length(message: InitiationMessage) -> usize
-    requires { ⌜ message .count ≤ 32 ⌝ }
-    ensures { λ r. ⌜ r ≡ sizes writer (kept message) ⌝ }
-{
-    let count = message.count;
-    let mut length: usize = 0;
-    let mut i: usize = 0;
-    while i < count {
-        let tlv = message.tlvs[i];
-        length += tlv_length(tlv);
-        i += 1;
-    }
-    length
-}
-
-fn tlv_length(tlv: InitiationTlv) -> usize
-    ensures { λ r. ⌜ (r ≡ 4 + tlv .«info_len») × (r ≤ 65539) ⌝ }
-{
-    let size = tlv.info_len;
-    4 + (size as usize)
-}
-
-fn put_tlvs(message: InitiationMessage, buffer: &[u8], out: &mut [u8])
-    requires { ⌜ writable message (length (now buffer)) ≡ true ⌝ }
-    requires { ⌜ sizes writer (kept message) ≤ length (now out) ⌝ }
-    ensures { λ _. ⌜ now (out .exit) ≡ sets (now (out .entry)) 0 (bytesOf message (now (buffer .entry))) ⌝ }
-{
-    let count = message.count;
-    let mut at: usize = 0;
-    let mut i: usize = 0;
-    while i < count {
-        let tlv = message.tlvs[i];
-        put_tlv(out, at, tlv, buffer);
-        at += tlv_length(tlv);
-        i += 1;
+    TlvTable {
+        tlvs: tlvs,
+        count: message.count,
+        least: 0,
+        empty_last: false,
     }
 }
 
-fn put_tlv(out: &mut [u8], at: usize, tlv: InitiationTlv, buffer: &[u8])
-    ensures { λ _. ⌜ now (out .exit) ≡ putAt (now (out .entry)) at (oneTlv (now (buffer .entry)) tlv) ⌝ }
+fn entry_of(tlv: InitiationTlv) -> TlvEntry
+    ensures { λ r. ⌜ r ≡ entryOf tlv ⌝ }
 {
     let kind = tlv.info_type;
     let view = tlv.info;
-    let part = view.part(buffer);
-    writing::put_tlv(out, at, kind_of(kind), tlv.info_len, part);
+    TlvEntry {
+        kind: kind_of(kind),
+        size: tlv.info_len,
+        value: TlvValue::Part(view),
+    }
 }
 
 // The number that stands for a TLV's type on the wire.

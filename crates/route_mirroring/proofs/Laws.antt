@@ -1,13 +1,11 @@
 -- What the walk kit asks of a Route Mirroring body. Assumes nothing.
 use mathlib.Core.Path.{_≡_, refl, ap, _∙_, subst}
 use mathlib.Core.List.{List, [], _++_}
-use Prim.Native.Nat.{ℕ, _+_, _≤_, _<_}
+use Prim.Native.Nat.{ℕ, _≤_, _<_}
 use native.Mathlib.Omega.{arith}
 use lib.Dec.{lit<}
-use lib.ListN.{length, drop, set}
-use Rattle.wire.specs.Number as Number
+use lib.ListN.{length, drop}
 use Rattle.wire.specs.Bytes.{be, Bytes, numAt}
-use Rattle.wire.specs.Refusal.{refusal}
 use Rattle.wire.specs.Tlv.{putTlv, GoodTlv}
 use Rattle.wire.specs.Tlv as Wire
 use Rattle.wire.specs.TlvAt.{tlvOf}
@@ -16,9 +14,9 @@ use Rattle.wire.specs.declared.Refusal.{Refusal}
 use Rattle.cursor.specs.declared.Cursor.{Cursor}
 use Rattle.wire.proofs.Bytes.{num-lt}
 use Rattle.wire.proofs.Tlv.{tlv-length, tlv-there, tlv-join, tlv-rest, tlv-parts, coded-join, coded-parts}
-use Rattle.wire.proofs.Walk.{Takes, Faults, Laws, Tails, onwards, turn, onwards-bad}
+use Rattle.wire.proofs.Walk.{Takes, Faults, Laws, Tails, onwards, TurnTo, turn-to, onwards-bad}
 use Rattle.route_mirroring.specs.Grammar.{Tlv, bgpMessage, information, put, GoodInformation, ReadTlv, GoodTail}
-use Rattle.route_mirroring.specs.Shown.{sizeOf, refusedAnswer, places}
+use Rattle.route_mirroring.specs.Shown.{sizeOf, refusedAnswer}
 use Rattle.route_mirroring.specs.Read.{messageOf, step, stepAt, kit, answer}
 use Rattle.route_mirroring.specs.declared.RouteMirroringTlv.{RouteMirroringTlv}
 use Rattle.route_mirroring.specs.declared.Step.the-variants.{Bad, Whole}
@@ -31,7 +29,7 @@ taken : (s : List ℕ) (t : Tlv) → Found s t → (0 < sizeOf t) × (sizeOf t �
 taken s _ (found-message m) = omega (arith, m .long, m .there)
 taken s _ (found-info i) = omega (arith, i .there)
 
-takes : Takes kit
+pub takes : Takes kit
 takes s t e = taken s t (found s t (see s) e)
 
 forth-information : (size code : ℕ) (r : List ℕ) → GoodInformation size code
@@ -95,20 +93,8 @@ refuses n at table s d few e =
     ap answer (onwards-bad kit nil n at table s (w .0) few (w .1)) ∙ ap refusedAnswer (w .2)
 
 -- ---- a turn that finds a TLV
-pub record Onward (n at : ℕ) (table : List RouteMirroringTlv) (s : List ℕ) (u : RouteMirroringTlv) (c : Cursor) : Type 0 where
-  pub moved : at < c .at
-  pub within : c .at ≤ length s
-  pub full : places ≤ n → answer (onwards kit n at table s) ≡ refusedAnswer (refusal Number.TooMany at)
-  pub room : n < places → answer (onwards kit n at table s) ≡ answer (onwards kit (n + 1) (c .at) (set table n u) s)
-
 pub onward : (n at : ℕ) (table : List RouteMirroringTlv) (s : List ℕ) (u : RouteMirroringTlv) (c : Cursor)
-    → n ≤ at → at ≤ length s → stepAt s at ≡ Whole u c → Onward n at table s u c
+    → n ≤ at → at ≤ length s → stepAt s at ≡ Whole u c → TurnTo kit takes n at table s u (c .at)
 onward n at table s u c few h e =
     let w = was-whole at u c (step (drop at s)) e in
-    let o = turn kit takes n at table s (w .0) few h (w .1) in
-    record {
-      moved = rw (← w .3) (o .moved);
-      within = rw (← w .3) (o .within);
-      full = λ l. ap answer (o .full l);
-      room = λ l. ap answer (o .room l) ∙ rw (w .2, w .3);
-    }
+    turn-to kit takes n at table s (w .0) u (c .at) few h (w .1) (w .2) (w .3)

@@ -17,18 +17,19 @@ use Rattle.writing.specs.Write.{lengthOf, Wrote}
 use Rattle.writing.specs.declared.WriteAnswer.{WriteAnswer}
 use Rattle.writing.specs.declared.WriteAnswer.the-variants.{Written}
 use Rattle.writing.proofs.Answers.{front, wrote-determined}
-use Rattle.writing.proofs.Table.{length-parts}
+use Rattle.writing.proofs.Table.{length-parts, kept-of}
+use Rattle.tlv_table.proofs.Translated.{bytes-translated}
 use Rattle.route_mirroring.specs.Grammar.{Reading, join, Good}
 use Rattle.route_mirroring.specs.Shown.{sizeOf, zeroTlv, places, grammar}
 use Rattle.route_mirroring.specs.Read.{kit, readMirroring, reader, answer}
-use Rattle.route_mirroring.specs.Write.{writer, kept, readingOf, bytesOf, writable}
+use Rattle.route_mirroring.specs.Write.{writer, kept, readingOf, bytesOf, writable, entryOf}
 use Rattle.route_mirroring.specs.declared.RouteMirroring.{RouteMirroring}
 use Rattle.route_mirroring.specs.declared.RouteMirroringAnswer.{RouteMirroringAnswer}
 use Rattle.route_mirroring.proofs.Laws.{faults, laws, tails}
-use Rattle.route_mirroring.proofs.Written.{writes-of}
+use Rattle.route_mirroring.proofs.Written.{translates}
 use Rattle.route_mirroring.proofs.Shows.{shows-of, ViewAt, view-at}
 use Rattle.route_mirroring.proofs.Trip.{good-of, ReadsBack, reads-back}
-use Rattle.route_mirroring.proofs.Converse.{Inside, TwoBytes, bytes-joined, writable-from}
+use Rattle.route_mirroring.proofs.Converse.{Inside, TwoBytes, writable-from}
 
 -- What the reader accepts has a good reading that fits, and it shows that reading.
 pub sound : Sound reader
@@ -59,7 +60,7 @@ pub round-trip : (m : RouteMirroring) (b out out′ : List ℕ) (a : WriteAnswer
     → (a ≡ Written (length (bytesOf m b))) × ReadsBack m b (take (lengthOf a) out′)
 round-trip m b out out′ a p long wrote w short room =
     let f = front wrote w short room in
-    let x = writes-of m (length b) w in
+    let x = kept-of writer places (m .count) (m .tlvs) (length b) w in
     let g = good-of m b p (x .fine) in
     let n = length-parts writer b (kept m) ∙ length-take (m .count) (m .tlvs) in
     let a = complete (readingOf m b) g (omega (arith, n, x .few)) short in
@@ -70,7 +71,7 @@ pub only-writable : (m : RouteMirroring) (b : List ℕ) → Bytes b → length (
     → ((i : ℕ) → i < m .count → Inside b (getD (m .tlvs) i zeroTlv)) → ((i : ℕ) → i < m .count → TwoBytes (getD (m .tlvs) i zeroTlv))
     → ReadsBack m b (bytesOf m b) → writable m (length b) ≡ true
 only-writable m b p long inside two r =
-    let q = sound (bytesOf m b) (bytes-joined b p (kept m)) (r .read-good) in
+    let q = sound (bytesOf m b) (bytes-translated writer 19 true entryOf translates b p (kept m)) (r .read-good) in
     writable-from m b long inside two (q .0) (q .1) (views (q .0) (q .1 .reading .is-good)) r
 
 -- ---- any two answers, and any two outputs, that the contracts allow are equal

@@ -4,27 +4,27 @@ use mathlib.Core.Bool.{true}
 use mathlib.Core.List.{List}
 use Prim.Native.Nat.{ℕ, _+_, _≤_}
 use native.Mathlib.Omega.{arith}
-use lib.ListN.{length, getD}
-use lib.Seq.{getD-take, length-take-le}
+use lib.ListN.{length}
+use lib.Seq.{length-take-le}
 use Rattle.wire.specs.Number as Number
 use Rattle.wire.specs.Bytes.{Bytes, none}
 use Rattle.wire.specs.Parts.{AllAt}
 use Rattle.writing.specs.Table.{allOk}
 use Rattle.writing.proofs.Tlv.{tlv-good}
-use Rattle.writing.proofs.Table.{length-joined, all-good, length-parts}
-use Rattle.writing.proofs.Trip.{each-same, end-sizes}
+use Rattle.writing.proofs.Table.{all-good, length-parts, Kept}
+use Rattle.writing.proofs.Trip.{table-same, end-sizes}
+use Rattle.tlv_table.proofs.Translated.{length-translated}
 use Rattle.route_mirroring.specs.Grammar.{ReadTlv, Good}
 use Rattle.route_mirroring.specs.Shown.{codeOf, zeroTlv, places, sizeOf, entry, shown}
 use Rattle.route_mirroring.specs.Read.{readMirroring}
-use Rattle.route_mirroring.specs.Write.{valuePart, writer, kept, readingOf, bytesOf, SameTlv, Same}
+use Rattle.route_mirroring.specs.Write.{valuePart, writer, kept, readingOf, bytesOf, entryOf, SameTlv, Same}
 use Rattle.route_mirroring.specs.declared.RouteMirroringInfo.{RouteMirroringInfo}
 use Rattle.route_mirroring.specs.declared.RouteMirroringInfo.the-variants.{ErroredPdu, MessageLost}
 use Rattle.route_mirroring.specs.declared.RouteMirroringValue.{RouteMirroringValue}
 use Rattle.route_mirroring.specs.declared.RouteMirroringValue.the-variants.{BgpMessage, Information}
-use Rattle.route_mirroring.specs.declared.RouteMirroringTlv.{RouteMirroringTlv}
 use Rattle.route_mirroring.specs.declared.RouteMirroring.{RouteMirroring}
 use Rattle.route_mirroring.specs.declared.RouteMirroringAnswer.{RouteMirroringAnswer}
-use Rattle.route_mirroring.proofs.Written.{Fine, fine-of, bodied, Writes}
+use Rattle.route_mirroring.proofs.Written.{Fine, fine-of, translates}
 use Rattle.route_mirroring.proofs.Shows.{ViewAt}
 
 code-known : (i : RouteMirroringInfo) → codeOf i ≤ 1
@@ -59,24 +59,20 @@ pub record ReadsBack (m : RouteMirroring) (b s : List ℕ) : Type 0 where
   pub whole : readMirroring s .stop ≡ length s
   pub same : Same m b (readMirroring s .message) s
 
-pub reads-back : (m : RouteMirroring) (b : List ℕ) → length (m .tlvs) ≡ places → Writes m (length b)
+pub reads-back : (m : RouteMirroring) (b : List ℕ) → length (m .tlvs) ≡ places → Kept writer places (m .count) (m .tlvs) (length b)
     → readMirroring (bytesOf m b) ≡ shown (readingOf m b) → AllAt sizeOf (ViewAt (bytesOf m b)) 0 (readingOf m b .tlvs)
     → ReadsBack m b (bytesOf m b)
 reads-back m b long x a v =
     let s = bytesOf m b in
-    let k : length (kept m) ≡ m .count = length-take-le (m .count) (m .tlvs) (omega (arith, long, x .few)) in
-    let n : length (readingOf m b .tlvs) ≡ m .count = length-parts writer b (kept m) ∙ k in
+    let few : m .count ≤ length (m .tlvs) = omega (arith, long, x .few) in
     record {
       read-good = ap (λ (y : RouteMirroringAnswer). y .refusal .number) a;
       whole = ap (λ (y : RouteMirroringAnswer). y .stop) a
           ∙ end-sizes writer sizeOf entry (ViewAt s) b (λ n t o. size-value b (t .«info_len») (t .value) (fine-of (length b) t o)) (kept m) 0 (x .fine)
-          ∙ omega (arith, length-joined writer bodied b (kept m) (x .fine));
+          ∙ omega (arith, length-translated writer 19 true entryOf translates b (kept m) (x .fine));
       same = subst (λ (y : RouteMirroringAnswer). Same m b (y .message) s) (sym a) (record {
-        count-same = sym n;
-        tlv-same = λ i h.
-            subst (λ (t : RouteMirroringTlv). SameTlv t b (getD (shown (readingOf m b) .message .tlvs) i zeroTlv) s)
-            (getD-take (m .count) (m .tlvs) i zeroTlv h)
-            (each-same writer sizeOf entry (ViewAt s) b (λ t u. SameTlv t b u s) zeroTlv (λ n at t o e. same-value b s at (t .«info_len») (t .value) e) _
-            (kept m) 0 i (x .fine) v (omega (arith, k, h)));
+        count-same = sym (length-parts writer b (kept m) ∙ length-take-le (m .count) (m .tlvs) few);
+        tlv-same = table-same writer sizeOf entry (ViewAt s) b (λ t u. SameTlv t b u s) zeroTlv
+            (λ n at t o e. same-value b s at (t .«info_len») (t .value) e) _ (m .tlvs) (m .count) few (x .fine) v;
       });
     }

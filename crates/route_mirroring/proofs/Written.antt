@@ -1,28 +1,25 @@
 -- What the writing kit asks of a Route Mirroring body. Assumes nothing.
 use mathlib.Core.Path.{_≡_, refl, sym, ap, _∙_}
 use mathlib.Core.Bool.{Bool, true, false}
-use mathlib.Core.List.{List, [], _∷_, _++_}
+use mathlib.Core.List.{List}
 use Prim.Native.Nat.{ℕ, _+_, _≤_}
 use native.Mathlib.Omega.{arith}
-use borrow.Author.Tests.{leb-true, ltb-false, le-leb, eqb-true, eq-eqb}
-use lib.Dec.{leb, ltb}
+use borrow.Author.Tests.{leb-true, le-leb, eqb-true, eq-eqb}
+use lib.Dec.{leb}
 use lib.ListN.{length, length-map}
 use mir.Val.{Val}
 use denote.Laws.{Is}
 use denote.Struct.Laws as Struct
-use Rattle.wire.specs.Bytes.{pick, be}
-use Rattle.wire.specs.View.{viewed}
+use Rattle.wire.specs.Bytes.{pick}
+use Rattle.wire.specs.Tlv.{putTlv}
 use Rattle.wire.specs.declared.View.{View}
 use Rattle.writing.specs.Write.{tlvFits}
-use Rattle.writing.specs.Table.{allOk}
-use Rattle.writing.proofs.Sets.{length-tlv}
-use Rattle.writing.proofs.Tlv.{TlvFits, fits-of, fits-from, value-long}
-use Rattle.writing.proofs.Table.{Bodied}
+use Rattle.writing.proofs.Tlv.{TlvFits, fits-of, fits-from}
+use Rattle.tlv_table.specs.Tlvs.{partOf, entryWritable}
+use Rattle.tlv_table.proofs.Translated.{Translates}
 use Rattle.route_mirroring.specs.Grammar.{put}
-use Rattle.route_mirroring.specs.Shown.{codeOf, places}
-use Rattle.route_mirroring.specs.Write.{valuePart, valueWritable, tlvWritable, writer, valueBytes, oneTlv, kept, writable}
-use Rattle.route_mirroring.specs.declared.RouteMirroringInfo.{RouteMirroringInfo}
-use Rattle.route_mirroring.specs.declared.RouteMirroringInfo.the-variants.{ErroredPdu, MessageLost}
+use Rattle.route_mirroring.specs.Shown.{places}
+use Rattle.route_mirroring.specs.Write.{valuePart, valueWritable, tlvWritable, writer, valueEntry, entryOf}
 use Rattle.route_mirroring.specs.declared.RouteMirroringValue.{RouteMirroringValue}
 use Rattle.route_mirroring.specs.declared.RouteMirroringValue.the-variants.{BgpMessage, Information}
 use Rattle.route_mirroring.specs.declared.RouteMirroringTlv.{RouteMirroringTlv}
@@ -33,15 +30,6 @@ use Rattle.route_mirroring.proofs.RouteMirroring.Laws as MessageLaws
 -- how long the table of a message is, from what owning one tells
 pub table-long : (m : RouteMirroring) (vs : List Val) → Is Message.the-row m vs → length (m .tlvs) ≡ places
 table-long m vs is = sym (length-map (m .tlvs) _) ∙ Struct.owed Message.the-type MessageLaws.the-laws m vs is .0 .1 .0 .1
-
--- a code in two bytes
-two-bytes : (i : RouteMirroringInfo) → 0 ∷ codeOf i ∷ [] ≡ be 2 (codeOf i)
-unfolding be codeOf
-two-bytes ErroredPdu = refl
-two-bytes MessageLost = refl
-
-pub code-bytes : (n : ℕ) (i : RouteMirroringInfo) → n ≡ codeOf i → 0 ∷ n ∷ [] ≡ be 2 (codeOf i)
-code-bytes n i e = ap (λ (k : ℕ). 0 ∷ k ∷ []) e ∙ two-bytes i
 
 -- ---- what `tlvWritable` asks
 pub record FineMessage (room size : ℕ) (v : View) : Type 0 where
@@ -72,32 +60,25 @@ pub fine-from : (room : ℕ) (t : RouteMirroringTlv) → Fine room (t .«info_le
 unfolding tlvWritable
 fine-from room t f = value-from room (t .«info_len») (t .value) f
 
--- ---- one entry
-put-value : (b : List ℕ) (size : ℕ) (x : RouteMirroringValue) (r : List ℕ) → put (valuePart b size x) r ≡ valueBytes b size x ++ r
-unfolding be
-put-value b size (BgpMessage v) r = refl
-put-value b size (Information i) r = refl
+-- ---- what is written for one TLV is that TLV
+ok-same : (room after size : ℕ) (x : RouteMirroringValue) → entryWritable 19 true room after (valueEntry size x) ≡ valueWritable room size x
+unfolding entryWritable
+ok-same room after size (BgpMessage v) = refl
+ok-same room after size (Information i) = refl
 
-length-value : (b : List ℕ) (size : ℕ) (x : RouteMirroringValue) → Fine (length b) size x → length (valueBytes b size x) ≡ 4 + size
-unfolding be
-length-value b size (BgpMessage v) f = length-tlv 0 size (viewed b v) ∙ omega (arith, value-long _ _ _ b (f .fits))
-length-value b size (Information i) f = omega (arith, f)
+size-same : (size : ℕ) (x : RouteMirroringValue) → valueEntry size x .size ≡ size
+size-same size (BgpMessage v) = refl
+size-same size (Information i) = refl
 
-pub bodied : Bodied writer oneTlv
-bodied =
+put-same : (b : List ℕ) (size : ℕ) (x : RouteMirroringValue) (r : List ℕ) → putTlv (partOf b (valueEntry size x)) r ≡ put (valuePart b size x) r
+put-same b size (BgpMessage v) r = refl
+put-same b size (Information i) r = refl
+
+pub translates : Translates writer 19 true entryOf
+unfolding tlvWritable
+translates =
     record {
-      put-is = λ b t r. put-value b (t .«info_len») (t .value) r;
-      length-is = λ b n t e. length-value b (t .«info_len») (t .value) (fine-of (length b) t e);
+      ok-same = λ room n t. ok-same room n (t .«info_len») (t .value);
+      size-same = λ t. ap (λ (n : ℕ). 4 + n) (size-same (t .«info_len») (t .value));
+      put-same = λ b t r. put-same b (t .«info_len») (t .value) r;
     }
-
--- ---- the whole message
-pub record Writes (m : RouteMirroring) (room : ℕ) : Type 0 where
-  pub few : m .count ≤ places
-  pub fine : allOk writer room (kept m) ≡ true
-
-pub writes-of : (m : RouteMirroring) (room : ℕ) → writable m room ≡ true → Writes m room
-writes-of m room e = go (ltb places (m .count)) refl e
-  where
-    go : (c : Bool) → ltb places (m .count) ≡ c → pick c false (allOk writer room (kept m)) ≡ true → Writes m room
-    go true h q = let z : _≡_ {A = ℕ} 0 1 = cc in absurd (omega arith)
-    go false h q = record { few = ltb-false places (m .count) h; fine = q }

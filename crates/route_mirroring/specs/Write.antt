@@ -1,14 +1,17 @@
 -- What the writer writes: the reading of a record, by the grammar's own parts; which records are writable; when two are the same.
 use Prim.Native.Nat.{ℕ, _+_, _<_}
 use mathlib.Core.Path.{_≡_}
-use mathlib.Core.Bool.{Bool, false}
-use mathlib.Core.List.{List, []}
+use mathlib.Core.Bool.{Bool, true, false}
+use mathlib.Core.List.{List, [], map}
 use lib.ListN.{take, getD}
 use lib.Dec.{leb, ltb, eqb}
-use Rattle.wire.specs.Bytes.{pick, be}
+use Rattle.wire.specs.Bytes.{pick}
 use Rattle.wire.specs.View.{viewed}
-use Rattle.writing.specs.Write.{tlvBytes, tlvFits}
+use Rattle.writing.specs.Write.{tlvFits}
 use Rattle.writing.specs.Table.{Writer, parts, allOk}
+use Rattle.tlv_table.specs.declared.TlvValue.the-variants.{Part, Number}
+use Rattle.tlv_table.specs.declared.TlvEntry.{TlvEntry}
+use Rattle.tlv_table.specs.declared.TlvTable.{TlvTable}
 use Rattle.route_mirroring.specs.Grammar.{Tlv, bgpMessage, information, put, Reading, join}
 use Rattle.route_mirroring.specs.Shown.{codeOf, zeroTlv, places}
 use Rattle.route_mirroring.specs.declared.RouteMirroringValue.{RouteMirroringValue}
@@ -44,14 +47,6 @@ writer =
       size = λ t. 4 + t .«info_len»;
     }
 
--- the bytes of one TLV alone
-abbrev pub valueBytes : List ℕ → ℕ → RouteMirroringValue → List ℕ
-valueBytes b size (BgpMessage v) = tlvBytes 0 size (viewed b v)
-valueBytes b size (Information i) = tlvBytes 1 size (be 2 (codeOf i))
-
-abbrev pub oneTlv : List ℕ → RouteMirroringTlv → List ℕ
-oneTlv b t = valueBytes b (t .«info_len») (t .value)
-
 -- ---- the whole record: its entries below the count, and no tail
 abbrev pub kept : RouteMirroring → List RouteMirroringTlv
 kept m = take (m .count) (m .tlvs)
@@ -64,6 +59,17 @@ bytesOf m b = join (readingOf m b)
 
 abbrev pub writable : RouteMirroring → ℕ → Bool
 writable m room = pick (ltb places (m .count)) false (allOk writer room (kept m))
+
+-- ---- the table of TLVs that is written for a record
+abbrev pub valueEntry : ℕ → RouteMirroringValue → TlvEntry
+valueEntry size (BgpMessage v) = record { kind = 0; size = size; value = Part v }
+valueEntry size (Information i) = record { kind = 1; size = size; value = Number (codeOf i) }
+
+abbrev pub entryOf : RouteMirroringTlv → TlvEntry
+entryOf t = valueEntry (t .«info_len») (t .value)
+
+abbrev pub tableOf : RouteMirroring → TlvTable
+tableOf m = record { tlvs = map entryOf (m .tlvs); count = m .count; least = 19; «empty_last» = true }
 
 -- ---- two records are the same: their numbers below the count, and the bytes that their views show, each in its own buffer
 abbrev pub SameValue : RouteMirroringValue → List ℕ → RouteMirroringValue → List ℕ → Type 0

@@ -1,21 +1,21 @@
 // The body of a BMP Route Mirroring message (RFC 7854, section 4.7), behind the per-peer header.
 use cursor::Cursor;
 use cursor::ReadU16;
+use tlv_table::TlvEntry;
+use tlv_table::TlvTable;
+use tlv_table::TlvValue;
 use wire::Refusal;
 use wire::View;
 use writing::WriteAnswer;
 ghost use mathlib.Core.Path.{_≡_};
-ghost use mathlib.Core.Bool.{true};
 ghost use Prim.Native.Nat.{_+_, _≤_};
 ghost use lib.ListN.{length, drop};
-ghost use lib.Seq.{sets};
 ghost use Rattle.wire.specs.Bytes.{numAt};
 ghost use Rattle.wire.specs.Refusal.{refusal};
-ghost use Rattle.writing.specs.Write.{putAt, writeAnswer, written};
-ghost use Rattle.writing.specs.Table.{sizes};
+ghost use Rattle.writing.specs.Write.{writeAnswer, written};
 ghost use Rattle.route_mirroring.specs.Shown.{infoOf, codeOf, zeroTlv, refusedAnswer};
 ghost use Rattle.route_mirroring.specs.Read.{messageStep, informationStep, told, stepAt, readMirroring};
-ghost use Rattle.route_mirroring.specs.Write.{tlvWritable, writer, oneTlv, kept, bytesOf, writable};
+ghost use Rattle.route_mirroring.specs.Write.{entryOf, tableOf, bytesOf, writable};
 
 pub enum RouteMirroringInfo {
     ErroredPdu,
@@ -211,107 +211,50 @@ pub fn write_route_mirroring(message: RouteMirroring, buffer: &[u8], out: &mut [
     ensures { λ r. ⌜ r ≡ writeAnswer (writable message (length (now (buffer .entry)))) (length (bytesOf message (now (buffer .entry)))) (length (now (out .entry))) ⌝ }
     ensures { λ _. ⌜ now (out .exit) ≡ written (writable message (length (now (buffer .entry)))) (bytesOf message (now (buffer .entry))) (now (out .entry)) ⌝ }
 {
-    if !is_writable(message, buffer.len()) {
-        return writing::write_answer(false, 0, out.len());
-    }
-    let answer = writing::write_answer(true, written_length(message), out.len());
-    let WriteAnswer::Written(_) = answer else {
-        return answer;
-    };
-    put_tlvs(message, buffer, out);
-    answer
+    tlv_table::write_tlvs(table_of(message), 0, true, buffer, out)
 }
 
-fn is_writable(message: RouteMirroring, room: usize) -> bool
-    ensures { λ r. ⌜ r ≡ writable message room ⌝ }
+// A part is a BGP message, which has at least its header.
+fn table_of(message: RouteMirroring) -> TlvTable
+    ensures { λ r. ⌜ r ≡ tableOf message ⌝ }
 {
-    let count = message.count;
-    if 32 < count {
-        return false;
-    }
+    let first = message.tlvs[0];
+    let none = entry_of(first);
+    let mut tlvs = [none; 32];
     let mut i: usize = 0;
-    while i < count {
+    while i < 32 {
         let tlv = message.tlvs[i];
-        if !tlv_writable(tlv, room) {
-            return false;
-        }
+        tlvs[i] = entry_of(tlv);
         i += 1;
     }
-    true
+    TlvTable {
+        tlvs: tlvs,
+        count: message.count,
+        least: 19,
+        empty_last: true,
+    }
 }
 
-fn tlv_writable(tlv: RouteMirroringTlv, room: usize) -> bool
-    ensures { λ r. ⌜ r ≡ tlvWritable room tlv ⌝ }
+fn entry_of(tlv: RouteMirroringTlv) -> TlvEntry
+    ensures { λ r. ⌜ r ≡ entryOf tlv ⌝ }
 {
     let size = tlv.info_len;
     let value = tlv.value;
     match value {
-        RouteMirroringValue::BgpMessage(view) => {
-            if 19 <= size {
-                return writing::tlv_fits(0, size, view, room);
-            }
-            false
-        }
-        RouteMirroringValue::Information(_) => size == 2,
+        RouteMirroringValue::BgpMessage(view) => TlvEntry {
+            kind: 0,
+            size: size,
+            value: TlvValue::Part(view),
+        },
+        RouteMirroringValue::Information(info) => TlvEntry {
+            kind: 1,
+            size: size,
+            value: TlvValue::Number(code_of(info)),
+        },
     }
 }
 
-fn written_length(message: RouteMirroring) -> usize
-    requires { ⌜ message .count ≤ 32 ⌝ }
-    ensures { λ r. ⌜ r ≡ sizes writer (kept message) ⌝ }
-{
-    let count = message.count;
-    let mut length: usize = 0;
-    let mut i: usize = 0;
-    while i < count {
-        let tlv = message.tlvs[i];
-        length += tlv_length(tlv);
-        i += 1;
-    }
-    length
-}
-
-fn tlv_length(tlv: RouteMirroringTlv) -> usize
-    ensures { λ r. ⌜ (r ≡ 4 + tlv .«info_len») × (r ≤ 65539) ⌝ }
-{
-    let size = tlv.info_len;
-    4 + (size as usize)
-}
-
-fn put_tlvs(message: RouteMirroring, buffer: &[u8], out: &mut [u8])
-    requires { ⌜ writable message (length (now buffer)) ≡ true ⌝ }
-    requires { ⌜ sizes writer (kept message) ≤ length (now out) ⌝ }
-    ensures { λ _. ⌜ now (out .exit) ≡ sets (now (out .entry)) 0 (bytesOf message (now (buffer .entry))) ⌝ }
-{
-    let count = message.count;
-    let mut at: usize = 0;
-    let mut i: usize = 0;
-    while i < count {
-        let tlv = message.tlvs[i];
-        put_tlv(out, at, tlv, buffer);
-        at += tlv_length(tlv);
-        i += 1;
-    }
-}
-
-fn put_tlv(out: &mut [u8], at: usize, tlv: RouteMirroringTlv, buffer: &[u8])
-    ensures { λ _. ⌜ now (out .exit) ≡ putAt (now (out .entry)) at (oneTlv (now (buffer .entry)) tlv) ⌝ }
-{
-    let size = tlv.info_len;
-    let value = tlv.value;
-    match value {
-        RouteMirroringValue::BgpMessage(view) => {
-            let part = view.part(buffer);
-            writing::put_tlv(out, at, 0, size, part);
-        }
-        RouteMirroringValue::Information(info) => {
-            let code = [0, code_of(info)];
-            writing::put_tlv(out, at, 1, size, &code);
-        }
-    }
-}
-
-fn code_of(info: RouteMirroringInfo) -> u8
+fn code_of(info: RouteMirroringInfo) -> u16
     ensures { λ r. ⌜ r ≡ codeOf info ⌝ }
 {
     match info {

@@ -1,34 +1,32 @@
 -- No record is refused that would be read back as itself, where its views lie inside the buffer and its Reasons have length 2.
 -- Assumes nothing.
 use mathlib.Core.Path.{_≡_, refl, sym, ap, _∙_, subst}
-use mathlib.Core.Bool.{true}
+use mathlib.Core.Bool.{true, false}
 use mathlib.Core.List.{List, [], _∷_}
 use Prim.Native.Nat.{ℕ, suc, _+_, _-_, _≤_, _<_}
 use native.Mathlib.Omega.{arith}
 use borrow.Author.Tests.{le-ltb}
 use lib.ListN.{length, getD, replicate}
-use Rattle.wire.specs.Bytes.{Bytes, none}
 use Rattle.wire.specs.View.{viewed}
 use Rattle.wire.specs.declared.View.{View}
 use Rattle.wire.specs.Parts.{joinAll, EachGood, AllAt}
 use Rattle.wire.specs.Tlv.{putTail}
-use Rattle.wire.proofs.Bytes.{bytes-be, bytes-append}
-use Rattle.wire.proofs.Views.{length-part, viewed-inside, bytes-viewed}
-use Rattle.wire.proofs.Walk.{no-tail}
-use Rattle.wire.proofs.Tlv.{put-tlv-long, coded-length}
+use Rattle.wire.proofs.Tlv.{put-tlv-long}
 use Rattle.wire.specs.Exactly.{Shows}
 use Rattle.termination_message.specs.Read.{reader}
 use Rattle.writing.specs.Table.{parts, joined, allOk}
 use Rattle.writing.proofs.Table.{kept-each}
 use Rattle.writing.proofs.Trip.{table-back}
+use Rattle.tlv_table.proofs.Written.{good-fits}
+use Rattle.tlv_table.proofs.Translated.{no-tail-translated}
 use Rattle.termination_message.specs.Grammar.{Tlv, string, reason, put, sizeOf, ReadString, ReadTlv, Reading, join}
 use Rattle.termination_message.specs.Shown.{codeOf, zeroTlv, places, entry}
-use Rattle.termination_message.specs.Write.{partOf, writer, kept, bytesOf, writable, SameTlv, SameValue, Same}
+use Rattle.termination_message.specs.Write.{partOf, writer, kept, bytesOf, writable, entryOf, SameTlv, SameValue, Same}
 use Rattle.termination_message.specs.declared.TerminationTlvValue.{TerminationTlvValue}
 use Rattle.termination_message.specs.declared.TerminationTlv.{TerminationTlv}
 use Rattle.termination_message.specs.declared.TerminationMessage.{TerminationMessage}
 use Rattle.termination_message.specs.declared.TerminationAnswer.{TerminationAnswer}
-use Rattle.termination_message.proofs.Written.{Fine, fine-from}
+use Rattle.termination_message.proofs.Written.{Fine, fine-from, translates}
 use Rattle.termination_message.proofs.Shows.{ValueAt}
 use Rattle.termination_message.proofs.Trip.{ReadsBack}
 
@@ -54,12 +52,7 @@ followed b size v (t ∷ l) g = omega arith
 fine-value : (b : List ℕ) (size : ℕ) (x : TerminationTlvValue) (l : List TerminationTlv) → ReadTlv (partOf b size x) (joined writer b l)
     → InsideValue b x → LengthTwo size x → Fine (length b) (length l) size x
 fine-value b size (TerminationTlvValue.String v) l g inside two =
-    let w = g .well-formed in
-    let long = ap length (viewed-inside b v inside) ∙ length-part b (v .place) (v .length) inside in
-    record {
-      fits = record { kind-fits = w .kind-fits; size-fits = w .size-fits; view-is = sym long ∙ w .size-is; within = inside };
-      not-last-empty = followed b size v l g;
-    }
+    record { fits = good-fits 0 size v b (g .well-formed) inside; not-last-empty = followed b size v l g }
 fine-value b size (TerminationTlvValue.Reason r) l g inside two = two
 
 all-fine : (b : List ℕ) (l : List TerminationTlv) → EachGood put ReadTlv (parts writer b l) []
@@ -81,23 +74,6 @@ one-part b s at (reason n code) size (TerminationTlvValue.Reason r) w z e =
     let code-is : code ≡ codeOf r = sym (e ∙ w) in
     λ i. reason (sym z i) (code-is i)
 
-bytes-put : (b : List ℕ) → Bytes b → (size : ℕ) (x : TerminationTlvValue) (r : List ℕ) → Bytes r → Bytes (put (partOf b size x) r)
-bytes-put b p size (TerminationTlvValue.String v) r q = bytes-append (bytes-be 2 0) (bytes-append (bytes-be 2 size) (bytes-append (bytes-viewed b v p) q))
-bytes-put b p size (TerminationTlvValue.Reason c) r q =
-    bytes-append (bytes-be 2 1) (bytes-append (bytes-be 2 size) (bytes-append (bytes-be 2 (codeOf c)) q))
-
-pub bytes-joined : (b : List ℕ) → Bytes b → (l : List TerminationTlv) → Bytes (joined writer b l)
-bytes-joined b p [] = none
-bytes-joined b p (t ∷ l) = bytes-put b p (t .«info_len») (t .«info_value») (joined writer b l) (bytes-joined b p l)
-
-abbrev longOf : Tlv → ℕ
-longOf (string size value) = 4 + length value
-longOf (reason size code) = 6
-
-put-long : (t : Tlv) (r : List ℕ) → length (put t r) ≡ longOf t + length r
-put-long (string size value) r = put-tlv-long (record { kind = 0; size = size; value = value }) r
-put-long (reason size code) r = coded-length 1 size code r
-
 pub writable-from : (m : TerminationMessage) (b : List ℕ) → length (m .tlvs) ≡ places
     → ((i : ℕ) → i < m .count → Inside b (getD (m .tlvs) i zeroTlv)) → ((i : ℕ) → i < m .count → ReasonTwo (getD (m .tlvs) i zeroTlv))
     → (q : Reading) → Shows reader (bytesOf m b) q → AllAt sizeOf (ValueAt (join q)) 0 (q .tlvs)
@@ -112,7 +88,7 @@ writable-from m b long inside two q x values r =
     (λ at y t w e. one-part b s at y (t .«info_len») (t .«info_value») w (e .len-same) (e .value-same))
     (replicate (places - length (q .tlvs)) zeroTlv) (m .tlvs) (m .count) (q .tlvs) (omega (arith, long, few)) (same .count-same) v (same .tlv-same) in
     let z : putTail (q .tail) ≡ [] =
-    no-tail put longOf put-long (parts writer b (kept m)) (putTail (q .tail)) (ap (λ (l : List Tlv). joinAll put l (putTail (q .tail))) (sym each) ∙ x .reading .joined) in
+    no-tail-translated writer 0 false entryOf translates b (kept m) (putTail (q .tail)) (ap (λ (l : List Tlv). joinAll put l (putTail (q .tail))) (sym each) ∙ x .reading .joined) in
     let good : EachGood put ReadTlv (parts writer b (kept m)) [] =
     subst (λ (l : List Tlv). EachGood put ReadTlv l []) each (subst (EachGood put ReadTlv (q .tlvs)) z (x .reading .is-good .each)) in
     rw (le-ltb places (m .count) few)

@@ -1,6 +1,6 @@
 -- A record that was written and is read again. Assumes nothing.
 use mathlib.Core.Path.{_≡_, refl, sym, ap, _∙_, subst}
-use mathlib.Core.Bool.{true}
+use mathlib.Core.Bool.{true, false}
 use mathlib.Core.List.{List}
 use Prim.Native.Nat.{ℕ, _+_, _≤_}
 use native.Mathlib.Omega.{arith}
@@ -12,19 +12,20 @@ use Rattle.wire.specs.Parts.{AllAt}
 use Rattle.wire.proofs.Tlv.{tlv-length}
 use Rattle.writing.specs.Table.{joined, allOk}
 use Rattle.writing.proofs.Tlv.{tlv-good}
-use Rattle.writing.proofs.Table.{length-joined, all-good, length-parts, length-sizes, Kept}
+use Rattle.writing.proofs.Table.{all-good, length-parts, length-sizes, Kept}
 use Rattle.writing.proofs.Trip.{table-same, end-sizes}
+use Rattle.tlv_table.proofs.Translated.{length-translated}
 use Rattle.termination_message.specs.Grammar.{sizeOf, ReadTlv, Good}
 use Rattle.termination_message.specs.Shown.{codeOf, zeroTlv, places, entry, shown}
 use Rattle.termination_message.specs.Read.{readTermination}
-use Rattle.termination_message.specs.Write.{partOf, tlvWritable, writer, kept, readingOf, bytesOf, SameValue, SameTlv, Same}
+use Rattle.termination_message.specs.Write.{partOf, tlvWritable, writer, kept, readingOf, bytesOf, entryOf, SameValue, SameTlv, Same}
 use Rattle.termination_message.specs.declared.TerminationReason.{TerminationReason}
 use Rattle.termination_message.specs.declared.TerminationReason.the-variants.{AdministrativelyClosed, UnspecifiedReason, OutOfResources, RedundantConnection, PermanentlyAdministrativelyClosed}
 use Rattle.termination_message.specs.declared.TerminationTlvValue.{TerminationTlvValue}
 use Rattle.termination_message.specs.declared.TerminationTlv.{TerminationTlv}
 use Rattle.termination_message.specs.declared.TerminationMessage.{TerminationMessage}
 use Rattle.termination_message.specs.declared.TerminationAnswer.{TerminationAnswer}
-use Rattle.termination_message.proofs.Written.{Fine, fine-of, bodied}
+use Rattle.termination_message.proofs.Written.{Fine, fine-of, translates}
 use Rattle.termination_message.proofs.Shows.{ValueAt}
 
 code-small : (r : TerminationReason) → codeOf r ≤ 4
@@ -48,7 +49,7 @@ read-tlv : (b : List ℕ) → Bytes b → (t : TerminationTlv) (l : List Termina
     → ReadTlv (partOf b (t .«info_len») (t .«info_value»)) (joined writer b l)
 read-tlv b p t l e w =
     let n = length-sizes writer (λ u. omega arith) l in
-    read-value b p (length l) (t .«info_len») (t .«info_value») (joined writer b l) (omega (arith, n, length-joined writer bodied b l w))
+    read-value b p (length l) (t .«info_len») (t .«info_value») (joined writer b l) (omega (arith, n, length-translated writer 0 false entryOf translates b l w))
     (fine-of (length b) (length l) t e)
 
 pub good-of : (m : TerminationMessage) (b : List ℕ) → Bytes b → allOk writer (length b) (kept m) ≡ true → Good (readingOf m b)
@@ -92,7 +93,7 @@ reads-back m b long x a v =
       read-good = ap (λ (y : TerminationAnswer). y .refusal .number) a;
       whole = ap (λ (y : TerminationAnswer). y .stop) a
           ∙ end-sizes writer sizeOf entry (ValueAt s) b (λ n t o. size-same b n (t .«info_len») (t .«info_value») (fine-of (length b) n t o)) (kept m) 0 (x .fine)
-          ∙ omega (arith, length-joined writer bodied b (kept m) (x .fine));
+          ∙ omega (arith, length-translated writer 0 false entryOf translates b (kept m) (x .fine));
       same = subst (λ (y : TerminationAnswer). Same m b (y .message) s) (sym a) (record {
         count-same = sym (length-parts writer b (kept m) ∙ length-take-le (m .count) (m .tlvs) few);
         tlv-same = table-same writer sizeOf entry (ValueAt s) b (λ t u. SameTlv t b u s) zeroTlv (same-tlv b s) _ (m .tlvs) (m .count) few (x .fine) v;

@@ -1,22 +1,22 @@
 -- What the writing kit asks of a Termination body. Assumes nothing.
-use mathlib.Core.Path.{_≡_, refl, sym, _∙_}
-use mathlib.Core.Bool.{true}
-use mathlib.Core.List.{List, _++_}
+use mathlib.Core.Path.{_≡_, refl, sym, ap, _∙_}
+use mathlib.Core.Bool.{true, false}
+use mathlib.Core.List.{List}
 use Prim.Native.Nat.{ℕ, _+_}
 use native.Mathlib.Omega.{arith}
-use borrow.Author.Tests.{eqb-true, eq-eqb}
+use borrow.Author.Tests.{le-leb, eqb-true, eq-eqb}
 use lib.ListN.{length, length-map}
 use mir.Val.{Val}
 use denote.Laws.{Is}
 use denote.Struct.Laws as Struct
-use Rattle.wire.specs.Bytes.{be}
-use Rattle.writing.specs.Write.{tlvBytes}
-use Rattle.writing.proofs.Sets.{length-tlv}
-use Rattle.writing.proofs.Tlv.{WalkedTlvFits, walked-of, walked-from, value-long}
-use Rattle.writing.proofs.Table.{Bodied, Kept, kept-of}
+use Rattle.wire.specs.Tlv.{putTlv}
+use Rattle.writing.proofs.Tlv.{WalkedTlvFits, walked-of, walked-from}
+use Rattle.tlv_table.specs.Tlvs as Tlvs
+use Rattle.tlv_table.specs.Tlvs.{entryWritable}
+use Rattle.tlv_table.proofs.Translated.{Translates}
 use Rattle.termination_message.specs.Grammar.{put}
-use Rattle.termination_message.specs.Shown.{typeOf, kindOf, places}
-use Rattle.termination_message.specs.Write.{partOf, valueWritable, tlvWritable, writer, valueBytes, oneTlv, writable}
+use Rattle.termination_message.specs.Shown.{places}
+use Rattle.termination_message.specs.Write.{partOf, valueWritable, tlvWritable, writer, valueEntry, entryOf}
 use Rattle.termination_message.specs.declared.TerminationTlvValue.{TerminationTlvValue}
 use Rattle.termination_message.specs.declared.TerminationTlv.{TerminationTlv}
 use Rattle.termination_message.specs.declared.TerminationMessage.{TerminationMessage}
@@ -48,27 +48,25 @@ fine-from room after t f = go (t .«info_len») (t .«info_value») f
     go size (TerminationTlvValue.String v) q = walked-from 0 size v room after q
     go size (TerminationTlvValue.Reason r) q = eq-eqb size 2 q
 
--- ---- one entry
-put-value : (b : List ℕ) (size : ℕ) (x : TerminationTlvValue) (r : List ℕ)
-    → put (partOf b size x) r ≡ tlvBytes (kindOf (typeOf x)) size (valueBytes b x) ++ r
-unfolding be typeOf kindOf
-put-value b size (TerminationTlvValue.String v) r = refl
-put-value b size (TerminationTlvValue.Reason q) r = refl
+-- ---- what is written for one TLV is that TLV
+ok-same : (room after size : ℕ) (x : TerminationTlvValue) → entryWritable 0 false room after (valueEntry size x) ≡ valueWritable room after size x
+unfolding entryWritable
+ok-same room after size (TerminationTlvValue.String v) = rw (le-leb 0 size (omega arith))
+ok-same room after size (TerminationTlvValue.Reason r) = refl
 
-length-value : (b : List ℕ) (after size : ℕ) (x : TerminationTlvValue) → Fine (length b) after size x → length (valueBytes b x) ≡ size
-unfolding be
-length-value b after size (TerminationTlvValue.String v) f = value-long 0 size v b (f .fits)
-length-value b after size (TerminationTlvValue.Reason r) f = sym f
+size-same : (size : ℕ) (x : TerminationTlvValue) → valueEntry size x .size ≡ size
+size-same size (TerminationTlvValue.String v) = refl
+size-same size (TerminationTlvValue.Reason r) = refl
 
-pub bodied : Bodied writer oneTlv
-bodied =
+put-same : (b : List ℕ) (size : ℕ) (x : TerminationTlvValue) (r : List ℕ) → putTlv (Tlvs.partOf b (valueEntry size x)) r ≡ put (partOf b size x) r
+put-same b size (TerminationTlvValue.String v) r = refl
+put-same b size (TerminationTlvValue.Reason q) r = refl
+
+pub translates : Translates writer 0 false entryOf
+unfolding tlvWritable
+translates =
     record {
-      put-is = λ b t r. put-value b (t .«info_len») (t .«info_value») r;
-      length-is = λ b n t e.
-          length-tlv (kindOf (typeOf (t .«info_value»))) (t .«info_len») (valueBytes b (t .«info_value»))
-          ∙ omega (arith, length-value b n (t .«info_len») (t .«info_value») (fine-of (length b) n t e));
+      ok-same = λ room n t. ok-same room n (t .«info_len») (t .«info_value»);
+      size-same = λ t. ap (λ (n : ℕ). 4 + n) (size-same (t .«info_len») (t .«info_value»));
+      put-same = λ b t r. put-same b (t .«info_len») (t .«info_value») r;
     }
-
--- ---- the whole message
-pub writes-of : (m : TerminationMessage) (room : ℕ) → writable m room ≡ true → Kept writer places (m .count) (m .tlvs) room
-writes-of m room = kept-of writer places (m .count) (m .tlvs) room

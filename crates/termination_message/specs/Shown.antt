@@ -21,10 +21,6 @@ unfoldable pub typeOf : TerminationTlvValue → TerminationTlvType
 typeOf (TerminationTlvValue.String v) = TerminationTlvType.String
 typeOf (TerminationTlvValue.Reason r) = TerminationTlvType.Reason
 
-unfoldable pub kindOf : TerminationTlvType → ℕ
-kindOf TerminationTlvType.String = 0
-kindOf TerminationTlvType.Reason = 1
-
 -- the reasons 0 to 3 by their numbers; 4 is the last, and what is above it is refused before it is named
 abbrev pub names : List TerminationReason
 names = AdministrativelyClosed ∷ UnspecifiedReason ∷ OutOfResources ∷ RedundantConnection ∷ []

@@ -2,16 +2,19 @@
 use Prim.Native.Nat.{ℕ, _+_, _<_}
 use mathlib.Core.Path.{_≡_}
 use mathlib.Core.Bool.{Bool, false}
-use mathlib.Core.List.{List, []}
+use mathlib.Core.List.{List, [], map}
 use lib.ListN.{take, getD}
 use lib.Dec.{ltb, eqb}
-use Rattle.wire.specs.Bytes.{pick, be}
+use Rattle.wire.specs.Bytes.{pick}
 use Rattle.wire.specs.View.{viewed}
 use Rattle.wire.specs.Tlv.{short}
-use Rattle.writing.specs.Write.{tlvBytes, walkedTlvFits}
+use Rattle.writing.specs.Write.{walkedTlvFits}
 use Rattle.writing.specs.Table.{Writer, parts, allOk}
+use Rattle.tlv_table.specs.declared.TlvValue.the-variants.{Part, Number}
+use Rattle.tlv_table.specs.declared.TlvEntry.{TlvEntry}
+use Rattle.tlv_table.specs.declared.TlvTable.{TlvTable}
 use Rattle.termination_message.specs.Grammar.{Tlv, string, reason, put, Reading, join}
-use Rattle.termination_message.specs.Shown.{typeOf, kindOf, codeOf, zeroTlv, places}
+use Rattle.termination_message.specs.Shown.{codeOf, zeroTlv, places}
 use Rattle.termination_message.specs.declared.TerminationTlvValue.{TerminationTlvValue}
 use Rattle.termination_message.specs.declared.TerminationTlv.{TerminationTlv}
 use Rattle.termination_message.specs.declared.TerminationMessage.{TerminationMessage}
@@ -41,14 +44,6 @@ writer =
       size = λ t. 4 + t .«info_len»;
     }
 
--- the bytes of one TLV alone
-abbrev pub valueBytes : List ℕ → TerminationTlvValue → List ℕ
-valueBytes b (TerminationTlvValue.String v) = viewed b v
-valueBytes b (TerminationTlvValue.Reason r) = be 2 (codeOf r)
-
-abbrev pub oneTlv : List ℕ → TerminationTlv → List ℕ
-oneTlv b t = tlvBytes (kindOf (typeOf (t .«info_value»))) (t .«info_len») (valueBytes b (t .«info_value»))
-
 -- ---- the whole record: its entries below the count, and no tail
 abbrev pub kept : TerminationMessage → List TerminationTlv
 kept m = take (m .count) (m .tlvs)
@@ -61,6 +56,17 @@ bytesOf m b = join (readingOf m b)
 
 abbrev pub writable : TerminationMessage → ℕ → Bool
 writable m room = pick (ltb places (m .count)) false (allOk writer room (kept m))
+
+-- ---- the table of TLVs that is written for a record
+abbrev pub valueEntry : ℕ → TerminationTlvValue → TlvEntry
+valueEntry size (TerminationTlvValue.String v) = record { kind = 0; size = size; value = Part v }
+valueEntry size (TerminationTlvValue.Reason r) = record { kind = 1; size = size; value = Number (codeOf r) }
+
+abbrev pub entryOf : TerminationTlv → TlvEntry
+entryOf t = valueEntry (t .«info_len») (t .«info_value»)
+
+abbrev pub tableOf : TerminationMessage → TlvTable
+tableOf m = record { tlvs = map entryOf (m .tlvs); count = m .count; least = 0; «empty_last» = false }
 
 -- ---- two records are the same: their numbers below the count, and the bytes that their views show, each in its own buffer
 abbrev pub SameValue : TerminationTlvValue → List ℕ → TerminationTlvValue → List ℕ → Type 0

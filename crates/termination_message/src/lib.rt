@@ -1,21 +1,19 @@
 // The body of a BMP Termination message (RFC 7854, section 4.5).
 use cursor::Cursor;
 use cursor::ReadU16;
+use tlv_table::TlvEntry;
+use tlv_table::TlvTable;
+use tlv_table::TlvValue;
 use wire::Refusal;
 use wire::View;
 use writing::WriteAnswer;
 ghost use mathlib.Core.Path.{_≡_};
-ghost use mathlib.Core.Bool.{true};
-ghost use Prim.Native.Nat.{_+_, _≤_};
 ghost use lib.ListN.{length};
-ghost use lib.Seq.{sets};
-ghost use Rattle.wire.specs.Bytes.{be};
 ghost use Rattle.wire.specs.Refusal.{refusal};
-ghost use Rattle.writing.specs.Write.{putAt, tlvBytes, walkedTlvFits, writeAnswer, written};
-ghost use Rattle.writing.specs.Table.{sizes};
-ghost use Rattle.termination_message.specs.Shown.{typeOf, kindOf, reasonOf, codeOf, stringEntry, reasonEntry, zeroTlv, refusedAnswer};
+ghost use Rattle.writing.specs.Write.{writeAnswer, written};
+ghost use Rattle.termination_message.specs.Shown.{typeOf, reasonOf, codeOf, stringEntry, reasonEntry, zeroTlv, refusedAnswer};
 ghost use Rattle.termination_message.specs.Read.{stepAt, readTermination};
-ghost use Rattle.termination_message.specs.Write.{tlvWritable, writer, oneTlv, kept, bytesOf, writable};
+ghost use Rattle.termination_message.specs.Write.{entryOf, tableOf, bytesOf, writable};
 
 pub enum TerminationTlvType {
     String,
@@ -219,128 +217,46 @@ pub fn write_termination_message(
     ensures { λ r. ⌜ r ≡ writeAnswer (writable message (length (now (buffer .entry)))) (length (bytesOf message (now (buffer .entry)))) (length (now (out .entry))) ⌝ }
     ensures { λ _. ⌜ now (out .exit) ≡ written (writable message (length (now (buffer .entry)))) (bytesOf message (now (buffer .entry))) (now (out .entry)) ⌝ }
 {
-    if !is_writable(message, buffer.len()) {
-        return writing::write_answer(false, 0, out.len());
-    }
-    let answer = writing::write_answer(true, written_length(message), out.len());
-    let WriteAnswer::Written(_) = answer else {
-        return answer;
-    };
-    put_tlvs(message, buffer, out);
-    answer
+    tlv_table::write_tlvs(table_of(message), 0, true, buffer, out)
 }
 
-fn is_writable(message: TerminationMessage, room: usize) -> bool
-    ensures { λ r. ⌜ r ≡ writable message room ⌝ }
+// The last TLV must not be empty: the reader would take it for a tail.
+fn table_of(message: TerminationMessage) -> TlvTable
+    ensures { λ r. ⌜ r ≡ tableOf message ⌝ }
 {
-    let count = message.count;
-    if 32 < count {
-        return false;
-    }
+    let first = message.tlvs[0];
+    let none = entry_of(first);
+    let mut tlvs = [none; 32];
     let mut i: usize = 0;
-    while i < count {
+    while i < 32 {
         let tlv = message.tlvs[i];
-        if !tlv_writable(tlv, room, count - i - 1) {
-            return false;
-        }
+        tlvs[i] = entry_of(tlv);
         i += 1;
     }
-    true
+    TlvTable {
+        tlvs: tlvs,
+        count: message.count,
+        least: 0,
+        empty_last: false,
+    }
 }
 
-fn tlv_writable(tlv: TerminationTlv, room: usize, after: usize) -> bool
-    ensures { λ r. ⌜ r ≡ tlvWritable room after tlv ⌝ }
+fn entry_of(tlv: TerminationTlv) -> TlvEntry
+    ensures { λ r. ⌜ r ≡ entryOf tlv ⌝ }
 {
     let size = tlv.info_len;
     let value = tlv.info_value;
     match value {
-        TerminationTlvValue::String(view) => walked_tlv_fits(0, size, view, room, after),
-        TerminationTlvValue::Reason(_) => size == 2,
-    }
-}
-
-// Whether a TLV can be written with this many TLVs behind it: a last one of length 0 would be taken for a tail.
-fn walked_tlv_fits(kind: u16, size: u16, view: View, room: usize, after: usize) -> bool
-    ensures { λ r. ⌜ r ≡ walkedTlvFits kind size view room after ⌝ }
-{
-    if !writing::tlv_fits(kind, size, view, room) {
-        return false;
-    }
-    if 0 < size {
-        return true;
-    }
-    0 < after
-}
-
-fn written_length(message: TerminationMessage) -> usize
-    requires { ⌜ message .count ≤ 32 ⌝ }
-    ensures { λ r. ⌜ r ≡ sizes writer (kept message) ⌝ }
-{
-    let count = message.count;
-    let mut length: usize = 0;
-    let mut i: usize = 0;
-    while i < count {
-        let tlv = message.tlvs[i];
-        length += tlv_length(tlv);
-        i += 1;
-    }
-    length
-}
-
-fn tlv_length(tlv: TerminationTlv) -> usize
-    ensures { λ r. ⌜ (r ≡ 4 + tlv .«info_len») × (r ≤ 65539) ⌝ }
-{
-    let size = tlv.info_len;
-    4 + (size as usize)
-}
-
-fn put_tlvs(message: TerminationMessage, buffer: &[u8], out: &mut [u8])
-    requires { ⌜ writable message (length (now buffer)) ≡ true ⌝ }
-    requires { ⌜ sizes writer (kept message) ≤ length (now out) ⌝ }
-    ensures { λ _. ⌜ now (out .exit) ≡ sets (now (out .entry)) 0 (bytesOf message (now (buffer .entry))) ⌝ }
-{
-    let count = message.count;
-    let mut at: usize = 0;
-    let mut i: usize = 0;
-    while i < count {
-        let tlv = message.tlvs[i];
-        put_tlv(out, at, tlv, buffer);
-        at += tlv_length(tlv);
-        i += 1;
-    }
-}
-
-fn put_tlv(out: &mut [u8], at: usize, tlv: TerminationTlv, buffer: &[u8])
-    ensures { λ _. ⌜ now (out .exit) ≡ putAt (now (out .entry)) at (oneTlv (now (buffer .entry)) tlv) ⌝ }
-{
-    let size = tlv.info_len;
-    let value = tlv.info_value;
-    let kind = kind_of(value.info_type());
-    match value {
-        TerminationTlvValue::String(view) => {
-            let part = view.part(buffer);
-            writing::put_tlv(out, at, kind, size, part);
-        }
-        TerminationTlvValue::Reason(reason) => {
-            put_tlv_u16(out, at, kind, size, code_of(reason));
-        }
-    }
-}
-
-// Puts a TLV whose value is a number of two bytes, whatever its length says; where it does not fit, nothing changes.
-fn put_tlv_u16(out: &mut [u8], at: usize, kind: u16, size: u16, code: u16)
-    ensures { λ _. ⌜ now (out .exit) ≡ putAt (now (out .entry)) at (tlvBytes kind size (be 2 code)) ⌝ }
-{
-    let bytes = [(code / 256) as u8, (code % 256) as u8];
-    writing::put_tlv(out, at, kind, size, &bytes);
-}
-
-fn kind_of(info_type: TerminationTlvType) -> u16
-    ensures { λ r. ⌜ r ≡ kindOf «info_type» ⌝ }
-{
-    match info_type {
-        TerminationTlvType::String => 0,
-        TerminationTlvType::Reason => 1,
+        TerminationTlvValue::String(view) => TlvEntry {
+            kind: 0,
+            size: size,
+            value: TlvValue::Part(view),
+        },
+        TerminationTlvValue::Reason(reason) => TlvEntry {
+            kind: 1,
+            size: size,
+            value: TlvValue::Number(code_of(reason)),
+        },
     }
 }
 

@@ -2,15 +2,15 @@ use borrow.Author.Needs.{needs}
 use native.Mathlib.Omega.{arith}
 use denote.Ref.{now}
 use borrow.Author.Tests.{lt-ltb, le-ltb}
-use mathlib.Core.Path.{_≡_, sym, _∙_}
+use mathlib.Core.Path.{_≡_, sym, ap, _∙_}
 use Prim.Native.Nat.{_-_, _≤_}
 use lib.ListN.{length, drop}
 use native.Mathlib.Nat.{sub-zero}
 use Rattle.initiation_message.specs.Read.{kit, answer, readInitiation}
 use Rattle.initiation_message.specs.Shown.{places, zeroTable}
-use Rattle.initiation_message.proofs.Laws.{Onward, onward}
+use Rattle.initiation_message.proofs.Laws.{takes, onward}
 use Rattle.initiation_message.proofs.Steps.{was-stop}
-use Rattle.wire.proofs.Walk.{resume-stop, onwards}
+use Rattle.wire.proofs.Walk.{resume-stop, onwards, TurnTo}
 use Rattle.initiation_message.proofs.parse_initiation_message.Statement.{statement}
 use Rattle.initiation_message.proofs.parse_initiation_message.Tie as tie
 use Rattle.wire.specs.Number as Number
@@ -25,7 +25,7 @@ abbrev μ-loop : tie.MeasureT-loop
 
 -- after a whole TLV
 onward-at : (c : tie.After-known-told2 Inv-loop μ-loop)
-    → Onward (c .before .before .before .before .loop .count) (c .before .before .before .before .loop .at) (c .before .before .before .before .loop .tlvs) (now (c .before .before .before .before .before .before .before .before .args .s)) (c .before .tlv .given .0 .0) (c .before .tlv .given .0 .1 .0)
+    → TurnTo kit takes (c .before .before .before .before .loop .count) (c .before .before .before .before .loop .at) (c .before .before .before .before .loop .tlvs) (now (c .before .before .before .before .before .before .before .before .args .s)) (c .before .tlv .given .0 .0) (c .before .tlv .given .0 .1 .0 .at)
 onward-at c = onward _ _ _ _ _ _ (c .before .before .before .before .loop .inv .0 .0) (c .before .before .before .before .loop .inv .0 .1) (sym (c .before .before .before .step-at .ensures) ∙ c .before .tlv .given .1)
 
 refused-requires : tie.Need-refused-requires Inv-loop μ-loop
@@ -54,7 +54,7 @@ refused-requires-2 : tie.Need-refused-requires-2 Inv-loop μ-loop
 refused-requires-2 c κs = search needs
 
 returns-2 : tie.Need-returns-2 Inv-loop μ-loop
-returns-2 c = c .refused2 .ensures ∙ sym (c .before .before .before .before .before .before .loop .inv .1 .1 ∙ onward-at (c .before .before) .full (c .before .if2 .taken))
+returns-2 c = c .refused2 .ensures ∙ sym (c .before .before .before .before .before .before .loop .inv .1 .1 ∙ ap answer (onward-at (c .before .before) .full (c .before .if2 .taken)))
 
 mul-tlvs : tie.Need-mul-tlvs Inv-loop μ-loop
 mul-tlvs c = search needs
@@ -71,7 +71,7 @@ loop-less c = let o = onward-at (c .before) in omega arith
 loop-again : tie.Need-loop-again Inv-loop μ-loop
 loop-again c =
     let o = onward-at (c .before) in
-    ((omega arith, o .within), (omega arith, c .before .before .before .before .before .loop .inv .1 .1 ∙ o .room (c .if2 .left)))
+    ((omega arith, o .within), (omega arith, c .before .before .before .before .before .loop .inv .1 .1 ∙ ap answer (o .room (c .if2 .left))))
 
 returns-3 : tie.Need-returns-3 Inv-loop μ-loop
 returns-3 c =

@@ -1,86 +1,35 @@
 use borrow.Author.Needs.{needs}
 use denote.Ref.{now}
-use borrow.Author.Tests.{not-true, not-false}
-use mathlib.Core.Path.{_≡_, sym, _∙_, subst}
-use Prim.Native.Nat.{ℕ, _≤_}
-use mathlib.Core.Bool.{true, false}
+use mathlib.Core.Path.{ap, _∙_}
+use mathlib.Core.Bool.{true, false, _&&_}
+use Prim.Native.Nat.{_+_}
 use lib.ListN.{length}
-use Rattle.initiation_message.specs.Write.{writer, kept, bytesOf, writable}
-use Rattle.initiation_message.proofs.Written.{bodied, writes-of}
 use Rattle.writing.specs.Write.{writeAnswer}
-use Rattle.writing.proofs.Answers.{answered, left-alone, wrote, put-there, refused-so}
-use Rattle.writing.proofs.Table.{length-joined}
+use Rattle.tlv_table.specs.Tlvs.{tableWritable, tableBytes, putBehind}
+use Rattle.tlv_table.specs.declared.TlvTable.{TlvTable}
+use Rattle.tlv_table.proofs.Translated.{translated}
+use Rattle.initiation_message.specs.Write.{writer, entryOf}
+use Rattle.initiation_message.proofs.Written.{translates}
 use Rattle.initiation_message.proofs.write_initiation_message.Statement.{statement}
 use Rattle.initiation_message.proofs.write_initiation_message.Tie as tie
 
-is-ok : (c : tie.Else1) → writable (c .before .before .before .before .args .message) (length (now (c .before .before .before .before .args .buffer))) ≡ true
-is-ok c = sym (c .before .is-writable .ensures) ∙ not-false (c .before .is-writable .result) (c .if1 .left)
+table-of-requires : tie.Need-table-of-requires
+table-of-requires c κs = search needs
 
-long : (c : tie.After-written-length) → writable (c .before .before .before .before .before .args .message) (length (now (c .before .before .before .before .before .args .buffer))) ≡ true → length (bytesOf (c .before .before .before .before .before .args .message) (now (c .before .before .before .before .before .args .buffer))) ≡ c .written-length .result
-long c w = length-joined writer bodied (now (c .before .before .before .before .before .args .buffer)) (kept (c .before .before .before .before .before .args .message)) (writes-of (c .before .before .before .before .before .args .message) _ w .fine) ∙ sym (c .written-length .ensures)
-
-asked : (c : tie.After-write-answer2) → c .write-answer2 .result ≡ writeAnswer (writable (c .before .before .before .before .before .before .args .message) (length (now (c .before .before .before .before .before .before .args .buffer)))) (c .before .written-length .result) (length (now (c .before .before .before .before .before .before .args .out)))
-asked c = c .write-answer2 .ensures ∙ rw (is-ok (c .before .before))
-
-is-writable-requires : tie.Need-is-writable-requires
-is-writable-requires c κs = search needs
-
-write-answer-requires : tie.Need-write-answer-requires
-write-answer-requires c κs = search needs
-
-returns : tie.Need-returns
-returns c =
-    let m = c .before .before .before .before .before .args .message in
-    let b = now (c .before .before .before .before .before .args .buffer) in
-    let no : writable m (length b) ≡ false = sym (c .before .before .is-writable .ensures) ∙ not-true (c .before .before .is-writable .result) (c .before .if1 .taken) in
-    refused-so _ (bytesOf m b) (now (c .before .before .before .before .before .args .out)) no _ (c .write-answer .ensures)
-
-written-length-requires : tie.Need-written-length-requires
-written-length-requires c κs = writes-of (c .before .before .before .before .args .message) _ (is-ok c) .few
-
-write-answer-requires-2 : tie.Need-write-answer-requires-2
-write-answer-requires-2 c κs = search needs
-
-enum-told : tie.Need-enum-told
-enum-told c = search needs
-
-enum-told-2 : tie.Need-enum-told-2
-enum-told-2 c = search needs
-
-returns-2 : tie.Need-returns-2
-returns-2 c =
-    let m = c .before .before .before .before .before .before .before .before .args .message in
-    let b = now (c .before .before .before .before .before .before .before .before .args .buffer) in
-    (answered _ (bytesOf m b) (now (c .before .before .before .before .before .before .before .before .args .out)) _ (long (c .before .before .before)) _ (asked (c .before .before)), left-alone _ (bytesOf m b) (now (c .before .before .before .before .before .before .before .before .args .out)) _ (long (c .before .before .before)) _ (asked (c .before .before)) _ (c .enum-told2 .given .1))
-
-put-tlvs-requires : tie.Need-put-tlvs-requires
-put-tlvs-requires c κs =
-    let m = c .before .before .before .before .before .before .before .before .before .args .message in
-    let b = now (c .before .before .before .before .before .before .before .before .before .args .buffer) in
-    let w = wrote _ (bytesOf m b) (now (c .before .before .before .before .before .before .before .before .before .args .out)) _ (long (c .before .before .before .before)) _ (asked (c .before .before .before)) _ (c .before .enum-told .given .1) in
-    (w .is-ok, subst (λ (k : ℕ). k ≤ length (now (c .before .before .before .before .before .before .before .before .before .args .out))) (length-joined writer bodied b (kept m) (writes-of m _ (w .is-ok) .fine)) (w .fits))
+write-tlvs-requires : tie.Need-write-tlvs-requires
+write-tlvs-requires c κs = search needs
 
 same-length : tie.Need-same-length
 same-length c = search needs
 
-returns-3 : tie.Need-returns-3
-returns-3 c =
-    let m = c .before .before .before .before .before .before .before .before .before .before .before .before .args .message in
-    let b = now (c .before .before .before .before .before .before .before .before .before .before .before .before .args .buffer) in
-    (answered _ (bytesOf m b) (now (c .before .before .before .before .before .before .before .before .before .before .before .before .args .out)) _ (long (c .before .before .before .before .before .before .before)) _ (asked (c .before .before .before .before .before .before)), put-there _ (bytesOf m b) (now (c .before .before .before .before .before .before .before .before .before .before .before .before .args .out)) _ (long (c .before .before .before .before .before .before .before)) _ (asked (c .before .before .before .before .before .before)) _ (c .before .before .before .before .enum-told .given .1) _ (c .before .before .put-tlvs .ensures))
+returns : tie.Need-returns
+returns c =
+    let b = now (c .before .before .before .before .before .before .before .args .buffer) in
+    let out = now (c .before .before .before .before .before .before .before .args .out) in
+    translated writer 0 false entryOf translates (c .before .before .before .before .before .before .before .args .message .count) (c .before .before .before .before .before .before .before .args .message .tlvs) b out _ _
+    (c .before .before .write-tlvs .ensures .0 ∙ ap (λ (t : TlvTable). writeAnswer (true && tableWritable t (length b)) (0 + length (tableBytes t b)) (length out)) (c .before .before .before .before .table-of .ensures))
+    (c .before .before .write-tlvs .ensures .1 ∙ ap (λ (t : TlvTable). putBehind (c .before .before .write-tlvs .result) 0 (tableBytes t b) out) (c .before .before .before .before .table-of .ensures))
 
 pub write-initiation-message-spec : {M : Type 1} → statement M
 write-initiation-message-spec =
-    tie.close
-    (tie.spec
-    is-writable-requires
-    write-answer-requires
-    returns
-    written-length-requires
-    write-answer-requires-2
-    enum-told
-    enum-told-2
-    returns-2
-    put-tlvs-requires
-    same-length
-    returns-3)
+    tie.close (tie.spec table-of-requires write-tlvs-requires same-length returns)

@@ -8,9 +8,9 @@ use lib.ListN.{length, drop}
 use native.Mathlib.Nat.{sub-zero}
 use Rattle.route_mirroring.specs.Read.{step, kit, answer, readMirroring}
 use Rattle.route_mirroring.specs.Shown.{places, zeroTable, refusedAnswer}
-use Rattle.route_mirroring.proofs.Laws.{refuses, Onward, onward}
+use Rattle.route_mirroring.proofs.Laws.{takes, refuses, onward}
 use Rattle.route_mirroring.proofs.Steps.{was-stop}
-use Rattle.wire.proofs.Walk.{resume-stop, onwards}
+use Rattle.wire.proofs.Walk.{resume-stop, onwards, TurnTo}
 use Rattle.route_mirroring.proofs.parse_route_mirroring.Statement.{statement}
 use Rattle.route_mirroring.proofs.parse_route_mirroring.Tie as tie
 use Rattle.wire.specs.Number as Number
@@ -25,7 +25,7 @@ abbrev μ-loop : tie.MeasureT-loop
 
 -- after a whole TLV
 onward-at : (c : tie.After-known-told3 Inv-loop μ-loop)
-    → Onward (c .before .before .before .before .loop .count) (c .before .before .before .before .loop .at) (c .before .before .before .before .loop .tlvs) (now (c .before .before .before .before .before .before .before .before .args .s)) (c .before .tlv .given .0 .0) (c .before .tlv .given .0 .1 .0)
+    → TurnTo kit takes (c .before .before .before .before .loop .count) (c .before .before .before .before .loop .at) (c .before .before .before .before .loop .tlvs) (now (c .before .before .before .before .before .before .before .before .args .s)) (c .before .tlv .given .0 .0) (c .before .tlv .given .0 .1 .0 .at)
 onward-at c = onward _ _ _ _ _ _ (c .before .before .before .before .loop .inv .0 .0) (c .before .before .before .before .loop .inv .0 .1) (sym (c .before .before .before .step-at .ensures) ∙ c .before .tlv .given .1)
 
 refusal-at-requires : tie.Need-refusal-at-requires Inv-loop μ-loop
@@ -69,7 +69,7 @@ refused-requires-3 : tie.Need-refused-requires-3 Inv-loop μ-loop
 refused-requires-3 c κs = search needs
 
 returns-3 : tie.Need-returns-3 Inv-loop μ-loop
-returns-3 c = c .refused3 .ensures ∙ ap refusedAnswer (c .before .refusal-at2 .ensures) ∙ sym (c .before .before .before .before .before .before .before .loop .inv .1 .1 ∙ onward-at (c .before .before .before) .full (c .before .before .if2 .taken))
+returns-3 c = c .refused3 .ensures ∙ ap refusedAnswer (c .before .refusal-at2 .ensures) ∙ sym (c .before .before .before .before .before .before .before .loop .inv .1 .1 ∙ ap answer (onward-at (c .before .before .before) .full (c .before .before .if2 .taken)))
 
 mul-tlvs : tie.Need-mul-tlvs Inv-loop μ-loop
 mul-tlvs c = search needs
@@ -86,7 +86,7 @@ loop-less c = let o = onward-at (c .before) in omega arith
 loop-again : tie.Need-loop-again Inv-loop μ-loop
 loop-again c =
     let o = onward-at (c .before) in
-    ((omega arith, o .within), (omega arith, c .before .before .before .before .before .loop .inv .1 .1 ∙ o .room (c .if2 .left)))
+    ((omega arith, o .within), (omega arith, c .before .before .before .before .before .loop .inv .1 .1 ∙ ap answer (o .room (c .if2 .left))))
 
 returns-4 : tie.Need-returns-4 Inv-loop μ-loop
 returns-4 c =
