@@ -1,9 +1,11 @@
 // Puts the readers, the splitter and the writers to both sides of every limit, and says what each answers.
+use forms::Shown;
+use kinds::Arguments;
+use kinds::Kind;
 use libc::STDOUT_FILENO;
-use limit_records::Answer;
-use limit_records::Kind;
-use splitter::SplitAnswer;
-use wire::Refusal;
+use models::Afi;
+use models::AsnLength;
+use peer_type::BmpPeerType;
 use wire::View;
 use writing::WriteAnswer;
 ghost use Prim.Native.Nat.{_≤_};
@@ -14,7 +16,44 @@ const ROOM: usize = 1_048_577;
 // What stands in an output before it is lent to a writer.
 const UNTOUCHED: u8 = 0xA5;
 
-const KINDS: usize = 10;
+// The numbers of the forms that lines are put together of; the first ten are the names of the kinds.
+const SPLIT: usize = 10;
+
+const TLVS: usize = 11;
+
+const COUNTERS: usize = 12;
+
+const BYTES: usize = 13;
+
+const MESSAGE_LENGTH: usize = 14;
+
+const SENT_OPEN: usize = 15;
+
+const RECEIVED_OPEN: usize = 16;
+
+const SLICE: usize = 17;
+
+const LENGTH_FIELD: usize = 18;
+
+const GOOD: usize = 19;
+
+const TABLE: usize = 20;
+
+const REFUSED: usize = 21;
+
+const WRITE: usize = 22;
+
+const INTO: usize = 23;
+
+const WRITTEN_SAME: usize = 24;
+
+const WRITTEN_OTHER: usize = 25;
+
+const NOT_WRITTEN: usize = 26;
+
+const OUTSIDE_SAME: usize = 27;
+
+const OUTSIDE_OTHER: usize = 28;
 
 fn main() {
     let mut bytes = [0u8; ROOM];
@@ -23,184 +62,176 @@ fn main() {
 }
 
 fn try_limits(bytes: &mut [u8], out: &mut [u8]) {
-    try_counts(bytes);
-    try_lengths(bytes);
-    try_embedded_lengths(bytes);
-    try_slices(bytes);
-    try_splitter(bytes);
+    try_readers(bytes);
     try_writers(bytes, out);
 }
 
-fn try_counts(bytes: &mut [u8]) {
-    try_tlvs(Kind::Initiation, bytes);
-    try_tlvs(Kind::Termination, bytes);
-    try_tlvs(Kind::Mirroring, bytes);
-    try_tlvs(Kind::PeerUp, bytes);
-    try_table(Kind::Stats, b" counters ", 4, 64, bytes);
-    try_table(Kind::Stats, b" counters ", 4, 65, bytes);
-}
-
-// A TLV of type 0 and length 19 is one that all four bodies take.
-fn try_tlvs(kind: Kind, bytes: &mut [u8]) {
-    try_table(kind, b" TLVs ", 19, 32, bytes);
-    try_table(kind, b" TLVs ", 19, 33, bytes);
-}
-
-fn try_table(kind: Kind, what: &[u8], size: u16, count: u32, bytes: &mut [u8]) {
-    put_pattern(bytes);
-    let start = put_front(kind, count, bytes);
-    let end = put_items(bytes, start, size, count);
-    try_read(kind, what, count as usize, front(bytes, end));
-}
-
-fn try_lengths(bytes: &mut [u8]) {
-    put_pattern(bytes);
-    try_bytes(Kind::PerPeer, 41, bytes);
-    try_bytes(Kind::PerPeer, 42, bytes);
-    try_bytes(Kind::Monitoring, 18, bytes);
-    try_bytes(Kind::Monitoring, 19, bytes);
-}
-
-fn try_bytes(kind: Kind, n: usize, bytes: &[u8]) {
-    try_front(kind, b" bytes ", n, bytes);
-}
-
-fn try_front(kind: Kind, what: &[u8], n: usize, bytes: &[u8]) {
-    try_read(kind, what, n, front(bytes, n));
-}
-
-fn try_embedded_lengths(bytes: &mut [u8]) {
-    try_mirrored(18, bytes);
-    try_mirrored(19, bytes);
-    try_sent_open(18, bytes);
-    try_sent_open(19, bytes);
-    try_received_open(18, bytes);
-    try_received_open(19, bytes);
-}
-
-fn try_mirrored(size: u16, bytes: &mut [u8]) {
-    let end = put_items(bytes, 0, size, 1);
-    let s = front(bytes, end);
-    try_read(Kind::Mirroring, b" message length ", size as usize, s);
-}
-
-fn try_sent_open(size: u16, bytes: &mut [u8]) {
-    put_opens(bytes, size, 19);
-    let s = front(bytes, 58);
-    try_read(Kind::PeerUp, b" sent OPEN length ", size as usize, s);
-}
-
-fn try_received_open(size: u16, bytes: &mut [u8]) {
-    put_opens(bytes, 19, size);
-    let s = front(bytes, 58);
-    try_read(Kind::PeerUp, b" received OPEN length ", size as usize, s);
-}
-
-fn try_slices(bytes: &mut [u8]) {
+// For each limit the number of a kind, or a colon for the splitter, and a letter for what is limited.
+fn try_readers(bytes: &mut [u8]) {
+    let limits = b"4t5t6t7t3c1h9b6m7o7r0s1s2s3s4s5s6s7s8s9s:s:f";
     let mut i: usize = 0;
-    while i < KINDS {
-        try_slice(kind_at(i), bytes);
+    while i < 22 {
+        try_limit((limits[2 * i] % 16) as usize, limits[2 * i + 1], bytes);
         i += 1;
     }
 }
 
-fn try_slice(kind: Kind, bytes: &mut [u8]) {
-    put_whole(kind, bytes);
-    try_front(kind, b" slice ", wire::LIMIT, bytes);
-    try_front(kind, b" slice ", ROOM, bytes);
+fn try_limit(reader: usize, what: u8, bytes: &mut [u8]) {
+    let limit = limit_of(what);
+    try_reader(reader, what, limit, bytes);
+    try_reader(reader, what, limit + 1, bytes);
 }
 
-// The order of the lines: headers, tables, and records of one view.
-fn kind_at(i: usize) -> Kind {
-    match i {
-        0 => Kind::Common,
-        1 => Kind::PerPeer,
-        2 => Kind::OpenBmp,
-        3 => Kind::Stats,
-        4 => Kind::Initiation,
-        5 => Kind::Termination,
-        6 => Kind::Mirroring,
-        7 => Kind::PeerUp,
-        8 => Kind::PeerDown,
-        _ => Kind::Monitoring,
+// The last number on one side of the limit; the next one is on its other side.
+fn limit_of(what: u8) -> u32
+    ensures { λ r. ⌜ r ≤ 1048576 ⌝ }
+{
+    match what {
+        b't' => 32,
+        b'c' => 64,
+        b'h' => 41,
+        b'b' | b'm' | b'o' | b'r' => 18,
+        _ => 1_048_576,
     }
 }
 
-fn try_read(kind: Kind, what: &[u8], n: usize, s: &[u8]) {
-    print_kind(kind);
-    print_case(what, n);
-    print_answer(limit_records::read(kind, s));
+fn name_of(what: u8) -> usize {
+    match what {
+        b't' => TLVS,
+        b'c' => COUNTERS,
+        b'h' | b'b' => BYTES,
+        b'm' => MESSAGE_LENGTH,
+        b'o' => SENT_OPEN,
+        b'r' => RECEIVED_OPEN,
+        b'f' => LENGTH_FIELD,
+        _ => SLICE,
+    }
 }
 
-fn try_splitter(bytes: &mut [u8]) {
-    try_split_slices(bytes);
-    try_length_field(1_048_576, bytes);
-    try_length_field(1_048_577, bytes);
+// The splitter takes an input of kind 0, the common header.
+fn try_reader(reader: usize, what: u8, n: u32, bytes: &mut [u8]) {
+    put_pattern(bytes);
+    let length = put_input(kinds::kind_at(reader % SPLIT), what, n, bytes);
+    print(reader, 0, 0);
+    print(name_of(what), n as usize, 0);
+    print_answer(answer_of(reader, front(bytes, length)));
 }
 
-fn try_split_slices(bytes: &mut [u8]) {
-    put_common(bytes, 6);
-    try_split(b"split slice ", wire::LIMIT, front(bytes, wire::LIMIT));
-    try_split(b"split slice ", ROOM, front(bytes, ROOM));
+// Answers how long the input is.
+fn put_input(kind: Kind, what: u8, n: u32, bytes: &mut [u8]) -> usize {
+    match what {
+        b't' => put_table(kind, 19, n, bytes),
+        b'c' => put_table(kind, 4, n, bytes),
+        b'm' => put_items(bytes, 0, n, 1),
+        b'o' => put_opens(bytes, n, 19),
+        b'r' => put_opens(bytes, 19, n),
+        b'f' => put_length_field(bytes, n),
+        b's' => put_slice(kind, bytes, n),
+        _ => n as usize,
+    }
 }
 
-fn try_length_field(length: u32, bytes: &mut [u8]) {
+// A TLV of type 0 and length 19 is one that all four bodies take.
+fn put_table(kind: Kind, size: u32, count: u32, bytes: &mut [u8]) -> usize {
+    let start = put_front(kind, count, bytes);
+    put_items(bytes, start, size, count)
+}
+
+fn put_length_field(bytes: &mut [u8], length: u32) -> usize {
     put_common(bytes, length);
-    let s = front(bytes, wire::LIMIT);
-    try_split(b"split length field ", length as usize, s);
+    wire::LIMIT
 }
 
-fn try_split(what: &[u8], n: usize, s: &[u8]) {
-    print_case(what, n);
-    print_answer(split(s));
+fn put_slice(kind: Kind, bytes: &mut [u8], length: u32) -> usize {
+    put_whole(kind, bytes);
+    length as usize
 }
 
-fn split(s: &[u8]) -> Answer {
-    match splitter::split_message(s) {
-        SplitAnswer::Message(_, message) => Answer::Good(message.length),
-        SplitAnswer::Refused(refusal) => Answer::Refused(refusal),
+fn answer_of(reader: usize, s: &[u8]) -> Shown {
+    if reader == SPLIT {
+        return readings::split(s);
+    }
+    readings::read(kinds::kind_at(reader), arguments(), s)
+}
+
+fn arguments() -> Arguments {
+    Arguments {
+        afi: Afi::Ipv6,
+        asn_len: AsnLength::Bits32,
+        peer_type: BmpPeerType::Global,
+    }
+}
+
+fn print_answer(answer: Shown) {
+    let numbers = answer.numbers;
+    print_numbers(
+        answer.form,
+        numbers[0] as usize,
+        numbers[1] as usize,
+        answer.count,
+    );
+}
+
+fn print_numbers(form: usize, first: usize, second: usize, count: usize) {
+    if form == kinds::REFUSED {
+        print(REFUSED, first, second);
+    } else if form < kinds::PEER_UP {
+        print(GOOD, first, 0);
+    } else {
+        print(TABLE, first, count);
     }
 }
 
 fn try_writers(bytes: &mut [u8], out: &mut [u8]) {
     let mut i: usize = 0;
-    while i < KINDS {
-        try_writer(kind_at(i), bytes, out);
+    while i < kinds::KINDS {
+        try_writer(i, bytes, out);
         i += 1;
     }
 }
 
-fn try_writer(kind: Kind, bytes: &mut [u8], out: &mut [u8]) {
-    put_whole(kind, bytes);
+fn try_writer(writer: usize, bytes: &mut [u8], out: &mut [u8]) {
+    let kind = kinds::kind_at(writer);
     let length = whole_length(kind);
-    try_outputs(kind, length, bytes, out);
+    put_pattern(bytes);
+    put_whole(kind, bytes);
+    try_outputs(writer, length, bytes, out);
     if length == wire::LIMIT {
-        try_too_long(kind, bytes, out);
+        try_too_long(writer, bytes, out);
     }
 }
 
 // An output of one byte more than is written, an exact one, one that is one byte short, and an empty one.
-fn try_outputs(kind: Kind, length: usize, bytes: &[u8], out: &mut [u8])
+fn try_outputs(writer: usize, length: usize, bytes: &[u8], out: &mut [u8])
     requires { ⌜ (1 ≤ length) × (length ≤ 1048576) ⌝ }
 {
-    try_write(kind, length, length + 1, bytes, out);
-    try_write(kind, length, length, bytes, out);
-    try_write(kind, length, length - 1, bytes, out);
-    try_write(kind, length, 0, bytes, out);
+    try_write(writer, length, length + 1, bytes, out);
+    try_write(writer, length, length, bytes, out);
+    try_write(writer, length, length - 1, bytes, out);
+    try_write(writer, length, 0, bytes, out);
 }
 
 // A length above the limit is refused before the room is looked at.
-fn try_too_long(kind: Kind, bytes: &[u8], out: &mut [u8]) {
-    try_write(kind, ROOM, ROOM, bytes, out);
-    try_write(kind, ROOM, 0, bytes, out);
+fn try_too_long(writer: usize, bytes: &[u8], out: &mut [u8]) {
+    try_write(writer, ROOM, ROOM, bytes, out);
+    try_write(writer, ROOM, 0, bytes, out);
 }
 
-fn try_write(kind: Kind, length: usize, room: usize, bytes: &[u8], out: &mut [u8]) {
+fn try_write(writer: usize, length: usize, room: usize, bytes: &[u8], out: &mut [u8]) {
     put_untouched(out);
-    print_write(kind, length, room);
-    let lent = front_mut(out, room);
-    let answer = limit_records::write(kind, wire::LIMIT < length, bytes, lent);
+    print(WRITE, 0, 0);
+    print(writer, 0, 0);
+    print(INTO, length, room);
+    let answer = write(kinds::kind_at(writer), length, bytes, front_mut(out, room));
     print_written(answer, bytes, out);
+}
+
+fn write(kind: Kind, length: usize, bytes: &[u8], out: &mut [u8]) -> WriteAnswer {
+    let s = front(bytes, wire::LIMIT);
+    if wire::LIMIT < length {
+        return longer_records::write_longer(kind, arguments(), s, bytes, out);
+    }
+    rewriting::rewrite(kind, arguments(), s, out)
 }
 
 // No two neighbours are alike, so that a byte that moved shows.
@@ -222,7 +253,6 @@ fn put_untouched(out: &mut [u8]) {
 
 // A record that fills the longest slice, or the longest of its kind; what is skipped on reading is zero, since it is written so.
 fn put_whole(kind: Kind, bytes: &mut [u8]) {
-    put_pattern(bytes);
     match kind {
         Kind::Common => put_common(bytes, 6),
         Kind::PerPeer => writing::put_u16(bytes, 0, 0x0080),
@@ -258,6 +288,10 @@ fn put_openbmp(bytes: &mut [u8]) {
     writing::put_u16(bytes, 4, 0x0107);
     writing::put_u16(bytes, 12, 0xC00C);
     put_zeros(bytes, 22);
+    put_openbmp_strings(bytes);
+}
+
+fn put_openbmp_strings(bytes: &mut [u8]) {
     writing::put_u16(bytes, 38, 65_535);
     put_zeros(bytes, 65_575);
     writing::put_u16(bytes, 65_607, 65_535);
@@ -272,8 +306,13 @@ fn put_zeros(bytes: &mut [u8], at: usize) {
 // Sixteen entries; the first is shorter than the others by what stands before it.
 fn put_whole_table(kind: Kind, bytes: &mut [u8]) {
     let start = put_front(kind, 16, bytes);
-    put_items(bytes, start, limit_records::LARGE - (start as u16), 1);
-    put_items(bytes, 65_536, limit_records::LARGE, 15);
+    put_items(
+        bytes,
+        start,
+        (longer_records::LARGE as u32) - (start as u32),
+        1,
+    );
+    put_items(bytes, 65_536, longer_records::LARGE as u32, 15);
 }
 
 // What stands before a table: the count of counters, or the parts of a Peer Up with two OPENs of 19 bytes. Answers where the table starts.
@@ -285,26 +324,27 @@ fn put_front(kind: Kind, count: u32, bytes: &mut [u8]) -> usize
             writing::put_u32(bytes, 0, count);
             4
         }
-        Kind::PeerUp => {
-            put_opens(bytes, 19, 19);
-            58
-        }
+        Kind::PeerUp => put_opens(bytes, 19, 19),
         _ => 0,
     }
 }
 
-// The lengths that two OPENs of 19 bytes, the first from place 20 on, say that they have; each stands behind a marker of 16 bytes.
-fn put_opens(bytes: &mut [u8], sent: u16, received: u16) {
-    writing::put_u16(bytes, 36, sent);
-    writing::put_u16(bytes, 55, received);
+// The lengths that two OPENs of 19 bytes, the first from place 20 on, say that they have; each stands behind a marker of 16 bytes. Answers
+// where the second one ends.
+fn put_opens(bytes: &mut [u8], sent: u32, received: u32) -> usize
+    ensures { λ r. ⌜ r ≤ 58 ⌝ }
+{
+    writing::put_u16(bytes, 36, (sent % 65_536) as u16);
+    writing::put_u16(bytes, 55, (received % 65_536) as u16);
+    58
 }
 
-// Entries of type 0 and this length, whose values are what stands there. Answers the place after the last.
-fn put_items(bytes: &mut [u8], at: usize, size: u16, count: u32) -> usize {
+// Entries of type 0 and this length, both as one number; their values are what stands there. Answers the place after the last.
+fn put_items(bytes: &mut [u8], at: usize, size: u32, count: u32) -> usize {
     let mut next = at;
     let mut i: u32 = 0;
     while i < count {
-        writing::put_tlv(bytes, next, 0, size, b"");
+        writing::put_u32(bytes, next, size);
         next = std::num::wrapping_add_usize(next, 4 + (size as usize));
         i += 1;
     }
@@ -327,76 +367,26 @@ fn front_mut(out: &mut [u8], length: usize) -> &mut [u8] {
     &mut out[0..length]
 }
 
-fn print_kind(kind: Kind) {
-    match kind {
-        Kind::Common => print(b"common"),
-        Kind::PerPeer => print(b"perpeer"),
-        Kind::OpenBmp => print(b"openbmp"),
-        Kind::Stats => print(b"stats"),
-        Kind::Initiation => print(b"initiation"),
-        Kind::Termination => print(b"termination"),
-        Kind::Mirroring => print(b"mirroring"),
-        Kind::PeerUp => print(b"peerup"),
-        Kind::PeerDown => print(b"peerdown"),
-        Kind::Monitoring => print(b"monitoring"),
-    }
-}
-
-fn print_write(kind: Kind, length: usize, room: usize) {
-    print(b"write ");
-    print_kind(kind);
-    print(b" ");
-    print_number(length);
-    print_case(b" into ", room);
-}
-
-fn print_case(what: &[u8], n: usize) {
-    print(what);
-    print_number(n);
-    print(b": ");
-}
-
-fn print_answer(answer: Answer) {
-    match answer {
-        Answer::Good(stop) => {
-            print(b"good stop=");
-            print_number(stop);
-        }
-        Answer::Table(stop, count) => {
-            print(b"good stop=");
-            print_number(stop);
-            print(b" count=");
-            print_number(count);
-        }
-        Answer::Refused(refusal) => print_refusal(refusal),
-    }
-    print(b"\n");
-}
-
 // What was written is to be the bytes that the record was read from, and every other byte of the output what it was.
 fn print_written(answer: WriteAnswer, bytes: &[u8], out: &[u8]) {
     match answer {
         WriteAnswer::Written(length) => {
-            print(b"written ");
-            print_number(length);
-            print_whether(b" inside=", is_copied(bytes, out, length));
-            print_whether(b" outside=", is_untouched(out, length));
+            print(written_form(is_copied(bytes, out, length)), length, 0);
+            print(outside_form(is_untouched(out, length)), 0, 0);
         }
         WriteAnswer::Refused(refusal) => {
-            print_refusal(refusal);
-            print_whether(b" outside=", is_untouched(out, 0));
+            print(NOT_WRITTEN, refusal.number as usize, refusal.place);
+            print(outside_form(is_untouched(out, 0)), 0, 0);
         }
     }
-    print(b"\n");
 }
 
-fn print_whether(what: &[u8], same: bool) {
-    print(what);
-    if same {
-        print(b"same");
-    } else {
-        print(b"other");
-    }
+fn written_form(same: bool) -> usize {
+    if same { WRITTEN_SAME } else { WRITTEN_OTHER }
+}
+
+fn outside_form(same: bool) -> usize {
+    if same { OUTSIDE_SAME } else { OUTSIDE_OTHER }
 }
 
 fn is_copied(bytes: &[u8], out: &[u8], n: usize) -> bool {
@@ -427,17 +417,43 @@ fn is_untouched(out: &[u8], start: usize) -> bool {
     true
 }
 
-fn print_refusal(refusal: Refusal) {
-    print(b"refused ");
-    print_number(refusal.number as usize);
-    print(b" at ");
-    print_number(refusal.place);
+// Prints a form with its numbers (docs/REPLAY.md, "Forms").
+fn print(form: usize, first: usize, second: usize) {
+    let mut line = [0u8; 64];
+    let shown = forms::of_five(form, 0, first as u64, second as u64, 0, 0, 0);
+    let end = put(&mut line, shown);
+    io::write_all(STDOUT_FILENO, front(&line, end));
 }
 
-fn print_number(n: usize) {
-    io::print_decimal(STDOUT_FILENO, n as u64);
-}
-
-fn print(text: &[u8]) {
-    io::write_all(STDOUT_FILENO, text);
+fn put(line: &mut [u8], shown: Shown) -> usize {
+    let forms = b"common |\
+        perpeer |\
+        openbmp |\
+        stats |\
+        initiation |\
+        termination |\
+        mirroring |\
+        peerup |\
+        peerdown |\
+        monitoring |\
+        split |\
+        TLVs #: |\
+        counters #: |\
+        bytes #: |\
+        message length #: |\
+        sent OPEN length #: |\
+        received OPEN length #: |\
+        slice #: |\
+        length field #: |\
+        good stop=#\n|\
+        good stop=# count=#\n|\
+        refused # at #\n|\
+        write |\
+        # into #: |\
+        written # inside=same |\
+        written # inside=other |\
+        refused # at # |\
+        outside=same\n|\
+        outside=other\n|";
+    forms::put_shown(line, 0, forms, shown, b"")
 }

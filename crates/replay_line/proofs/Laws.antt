@@ -2,23 +2,28 @@
 use mathlib.Core.Path.{_≡_, refl, sym, ap, _∙_}
 use mathlib.Core.Bool.{Bool, true, false}
 use mathlib.Core.List.{List, [], _∷_}
-use Prim.Native.Nat.{ℕ, suc, _+_, _-_, _*_, _/_, _%_, _≤_, _<_}
+use Prim.Native.Nat.{ℕ, zero, suc, _+_, _-_, _*_, _/_, _%_, _≤_, _<_}
 use native.Mathlib.Omega.{arith}
+use native.Mathlib.Nat.{sub-zero}
 use native.Mathlib.Numerals.{add-one}
-use borrow.Author.Tests.{lt-ltb, le-ltb, le-leb, lt-leb, eq-eqb, ne-eqb, eqb-true, leb-true}
-use lib.ListN.{length, take, drop, getD, drop-of-length-le, length-drop}
-use lib.Seq.{drop-cons, take-all}
+use borrow.Author.Tests.{lt-ltb, le-ltb, le-leb, lt-leb, eq-eqb, ne-eqb, eqb-true, eqb-false, leb-true}
+use lib.ListN.{length, take, drop, getD, drop-of-length-le, length-drop, List·getD-eq-default}
+use lib.Seq.{drop-cons, drop-drop, take-all}
 use lib.Dec.{eqb, leb}
 use Rattle.wire.specs.Bytes.{pick}
-use Rattle.replay_line.specs.Words.{starts}
+use Rattle.replay_line.specs.Words.{Row, word, starts, same, meaning, spaceIn, wordOf, wordIn}
 use Rattle.wire.specs.View.{view}
-use Rattle.replay_line.specs.declared.Reader.{Reader}
-use Rattle.replay_line.specs.declared.Reader.the-variants.{Common, PerPeer, Stats, Initiation, Termination, PeerDown, OpenBmp, Mirroring, Monitoring, PeerUp}
+use Rattle.models.specs.declared.Afi.{Afi}
+use Rattle.kinds.specs.declared.Kind.{Kind}
+use Rattle.kinds.specs.declared.Kind.the-variants.{Common, PerPeer, OpenBmp, Stats, Initiation, Termination, Mirroring, PeerUp, PeerDown, Monitoring}
+use Rattle.kinds.specs.Kinds.{kindAt}
+use Rattle.replay_line.specs.declared.FoundReader.{FoundReader}
+use Rattle.replay_line.specs.declared.FoundArguments.{FoundArguments}
 use Rattle.replay_line.specs.declared.Verb.{Verb}
 use Rattle.replay_line.specs.declared.Line.{Line}
 use Rattle.replay_line.specs.declared.Line.the-variants.{Bad}
-use Rattle.replay_line.specs.Line.{spaceIn, verbOf, noArguments, readerArguments, argumentsOf, lineWith, behindVerb, lineOf}
-use Rattle.replay_line.proofs.Reader as R
+use Rattle.replay_line.specs.Line.{readers, readerOf, peers, peerArguments, asnAt, typeAt, found, verbOf, noArguments, readerArguments, argumentsOf, lineWith, behindVerb, lineOf}
+use Rattle.kinds.proofs.Kind as K
 use denote.Enum.Declared.{tagOf}
 use types.Run.{OneOf, miss}
 use Rattle.replay_line.specs.Digits.{digitValue, pair, areDigits, bytesOf, pairsFit}
@@ -143,15 +148,95 @@ whole-line l rest text arguments first second verb r some is-first h is-rest is-
     let v : verb ≡ verbOf (take first l) = is-verb ∙ ap verbOf is-text in
     e ∙ rw (is-arguments, v) (sym (behind-verb l rest first some is-first h is-rest ∙ both-spaces rest second is-second (verbOf (take first l)) first k))
 
--- the readers but the last three take no arguments
-pub plain : (r : Reader) (t : List ℕ) → OneOf (0 ∷ 1 ∷ 2 ∷ 3 ∷ 4 ∷ 5 ∷ 6 ∷ []) (tagOf R.the-type r) → readerArguments r t ≡ noArguments t
+-- the readers but these three take no arguments
+abbrev bare : List ℕ
+bare = 0 ∷ 1 ∷ 2 ∷ 3 ∷ 4 ∷ 5 ∷ 8 ∷ []
+
+pub plain : (k : Kind) (t : List ℕ) → OneOf bare (tagOf K.the-type k) → readerArguments k t ≡ noArguments t
 plain Common t h = refl
 plain PerPeer t h = refl
+plain OpenBmp t h = refl
 plain Stats t h = refl
 plain Initiation t h = refl
 plain Termination t h = refl
 plain PeerDown t h = refl
-plain OpenBmp t h = refl
-plain Mirroring t h = absurd (miss (0 ∷ 1 ∷ 2 ∷ 3 ∷ 4 ∷ 5 ∷ 6 ∷ []) 7 tt h)
-plain Monitoring t h = absurd (miss (0 ∷ 1 ∷ 2 ∷ 3 ∷ 4 ∷ 5 ∷ 6 ∷ []) 8 tt h)
-plain PeerUp t h = absurd (miss (0 ∷ 1 ∷ 2 ∷ 3 ∷ 4 ∷ 5 ∷ 6 ∷ []) 9 tt h)
+plain Mirroring t h = absurd (miss bare 6 tt h)
+plain PeerUp t h = absurd (miss bare 7 tt h)
+plain Monitoring t h = absurd (miss bare 9 tt h)
+
+-- ---- a word among words
+module _ (words t : List ℕ) (count i n : ℕ) (h : i < count) (is-width : n ≡ 14) where
+  word-here : wordIn (count - i) (drop (14 * i) words) t ≡ pick (same t (wordOf (take n (drop (14 * i) words)))) 0 (suc (wordIn (count - (i + 1)) (drop (14 * (i + 1)) words) t))
+  unfolding wordIn
+  word-here =
+      let k : count - i ≡ suc (count - (i + 1)) = omega arith in
+      let m : 14 * (i + 1) ≡ 14 * i + 14 = omega arith in
+      rw (k, m, is-width, sym (drop-drop 14 (14 * i) words))
+
+  pub word-found : same t (wordOf (take n (drop (14 * i) words))) ≡ true → wordIn (count - i) (drop (14 * i) words) t ≡ 0
+  word-found e = word-here ∙ rw e
+
+  pub word-other : same t (wordOf (take n (drop (14 * i) words))) ≡ false
+      → wordIn (count - i) (drop (14 * i) words) t ≡ suc (wordIn (count - (i + 1)) (drop (14 * (i + 1)) words) t)
+  word-other e = word-here ∙ rw e
+
+pub word-start : (words t : List ℕ) (count : ℕ) → wordIn count words t ≡ 0 + wordIn (count - 0) (drop (14 * 0) words) t
+word-start words t count = rw (sub-zero count) (omega arith)
+
+pub word-none : (words t : List ℕ) (count i : ℕ) → count ≤ i → wordIn (count - i) words t ≡ 0
+unfolding wordIn
+word-none words t count i h = let k : count - i ≡ 0 = omega arith in rw k
+
+-- the place of a text among the words of a table, and what stands at a place
+abbrev pub placeIn : {A : Type 0} → List (Row A) → List ℕ → ℕ
+placeIn [] t = 0
+placeIn (r ∷ l) t = pick (same t (word (r .spelt))) 0 (suc (placeIn l t))
+
+abbrev meant : {A : Type 0} → List (Row A) → List A
+meant [] = []
+meant (r ∷ l) = r .means ∷ meant l
+
+meaning-at : {A : Type 0} (l : List (Row A)) (none : A) (t : List ℕ) → meaning l none t ≡ getD (meant l) (placeIn l t) none
+meaning-at [] none t = refl
+meaning-at {A} (r ∷ l) none t = go (same t (word (r .spelt))) (meaning-at l none t)
+  where
+    go : (b : Bool) → meaning l none t ≡ getD (meant l) (placeIn l t) none
+        → pick b (r .means) (meaning l none t) ≡ getD (r .means ∷ meant l) (pick b 0 (suc (placeIn l t))) none
+    go true e = refl
+    go false e = e
+
+-- two functions that agree below a number
+abbrev Agree : {A : Type 0} → (ℕ → A) → (ℕ → A) → ℕ → Type 0
+Agree f g zero = Unit {0}
+Agree f g (suc n) = Agree f g n × (f n ≡ g n)
+
+agreed : {A : Type 0} (f g : ℕ → A) (n i : ℕ) → Agree f g n → i < n → f i ≡ g i
+agreed f g zero i a h = absurd (omega arith)
+agreed f g (suc n) i a h = go (eqb i n) refl (agreed f g n i (a .0))
+  where
+    go : (b : Bool) → eqb i n ≡ b → (i < n → f i ≡ g i) → f i ≡ g i
+    go true e k = rw (eqb-true i n e) (a .1)
+    go false e k = let other = eqb-false i n e in k (omega (arith, other))
+
+module _ (t : List ℕ) (i : ℕ) where
+  pub reader-at : i ≡ placeIn readers t → i < 10 → readerOf t ≡ FoundReader.Reader (kindAt i)
+  unfolding readerOf
+  reader-at e h =
+      meaning-at readers FoundReader.Nothing t
+      ∙ rw (sym e) (agreed (λ n. getD (meant readers) n FoundReader.Nothing) (λ n. FoundReader.Reader (kindAt n)) 10 i ((((((((((tt, refl), refl), refl), refl), refl), refl), refl), refl), refl), refl) h)
+
+  pub no-reader : i ≡ placeIn readers t → 10 ≤ i → readerOf t ≡ FoundReader.Nothing
+  unfolding readerOf
+  no-reader e h =
+      meaning-at readers FoundReader.Nothing t ∙ rw (sym e) (List·getD-eq-default (meant readers) FoundReader.Nothing {n = i} h)
+
+  pub peer-at : (afi : Afi) → i ≡ placeIn (peers afi) t → i < 8 → peerArguments afi t ≡ found afi (asnAt (i / 4)) (typeAt (i % 4))
+  unfolding peerArguments
+  peer-at afi e h =
+      meaning-at (peers afi) FoundArguments.Nothing t
+      ∙ rw (sym e) (agreed (λ n. getD (meant (peers afi)) n FoundArguments.Nothing) (λ n. found afi (asnAt (n / 4)) (typeAt (n % 4))) 8 i ((((((((tt, refl), refl), refl), refl), refl), refl), refl), refl) h)
+
+  pub no-peer : (afi : Afi) → i ≡ placeIn (peers afi) t → 8 ≤ i → peerArguments afi t ≡ FoundArguments.Nothing
+  unfolding peerArguments
+  no-peer afi e h =
+      meaning-at (peers afi) FoundArguments.Nothing t ∙ rw (sym e) (List·getD-eq-default (meant (peers afi)) FoundArguments.Nothing {n = i} h)

@@ -1,10 +1,11 @@
 -- The lines that the replay program takes (docs/REPLAY.md, "Input"): a verb, its arguments and digits, with a space between them.
-use Prim.Native.Nat.{ℕ, suc, _+_, _-_}
+use Prim.Native.Nat.{ℕ, _+_, _-_}
 use mathlib.Core.List.{List, [], _∷_}
 use lib.Dec.{eqb, leb}
 use lib.ListN.{length, take, drop}
 use Rattle.wire.specs.Bytes.{pick}
 use Rattle.wire.specs.View.{view}
+use Rattle.wire.specs.Arms.{armOf}
 use Rattle.wire.specs.declared.View.{View}
 use Rattle.models.specs.declared.Afi.{Afi}
 use Rattle.models.specs.declared.Afi.the-variants.{Ipv4, Ipv6}
@@ -12,9 +13,9 @@ use Rattle.models.specs.declared.AsnLength.{AsnLength}
 use Rattle.models.specs.declared.AsnLength.the-variants.{Bits16, Bits32}
 use Rattle.peer_type.specs.declared.BmpPeerType.{BmpPeerType}
 use Rattle.peer_type.specs.declared.BmpPeerType.the-variants.{Global, RD, Local, LocalRib}
-use Rattle.replay_line.specs.Words.{Row, row, word, starts, same, meaning}
-use Rattle.replay_line.specs.declared.Reader.{Reader}
-use Rattle.replay_line.specs.declared.Reader.the-variants.{Common, PerPeer, Stats, Initiation, Termination, PeerDown, OpenBmp, Mirroring, Monitoring, PeerUp}
+use Rattle.replay_line.specs.Words.{Row, row, word, starts, same, meaning, spaceIn}
+use Rattle.kinds.specs.declared.Kind.{Kind}
+use Rattle.kinds.specs.declared.Kind.the-variants.{Common, PerPeer, OpenBmp, Stats, Initiation, Termination, Mirroring, PeerUp, PeerDown, Monitoring}
 use Rattle.replay_line.specs.declared.Verb.{Verb}
 use Rattle.replay_line.specs.declared.Verb.the-variants.{Read, Rewrite, Split, Equal, Unknown}
 use Rattle.replay_line.specs.declared.Line.{Line}
@@ -26,14 +27,14 @@ abbrev pub readers : List (Row FoundReader)
 readers =
     row "common" (FoundReader.Reader Common)
     ∷ row "perpeer" (FoundReader.Reader PerPeer)
+    ∷ row "openbmp" (FoundReader.Reader OpenBmp)
     ∷ row "stats" (FoundReader.Reader Stats)
     ∷ row "initiation" (FoundReader.Reader Initiation)
     ∷ row "termination" (FoundReader.Reader Termination)
-    ∷ row "peerdown" (FoundReader.Reader PeerDown)
-    ∷ row "openbmp" (FoundReader.Reader OpenBmp)
     ∷ row "mirroring" (FoundReader.Reader Mirroring)
-    ∷ row "monitoring" (FoundReader.Reader Monitoring)
     ∷ row "peerup" (FoundReader.Reader PeerUp)
+    ∷ row "peerdown" (FoundReader.Reader PeerDown)
+    ∷ row "monitoring" (FoundReader.Reader Monitoring)
     ∷ []
 
 unfoldable pub readerOf : List ℕ → FoundReader
@@ -69,6 +70,13 @@ peers afi =
     ∷ row "asn=32,type=3" (found afi Bits32 LocalRib)
     ∷ []
 
+-- the two arguments by their place among their values
+abbrev pub asnAt : ℕ → AsnLength
+asnAt n = armOf ((0, Bits16) ∷ []) n Bits32
+
+abbrev pub typeAt : ℕ → BmpPeerType
+typeAt n = armOf ((0, Global) ∷ (1, RD) ∷ (2, Local) ∷ []) n LocalRib
+
 unfoldable pub peerArguments : Afi → List ℕ → FoundArguments
 peerArguments afi t = meaning (peers afi) FoundArguments.Nothing t
 
@@ -81,7 +89,7 @@ sessionArguments t =
 unfoldable pub noArguments : List ℕ → FoundArguments
 noArguments t = pick (same t (word "-")) (found Ipv4 Bits16 Global) FoundArguments.Nothing
 
-abbrev pub readerArguments : Reader → List ℕ → FoundArguments
+abbrev pub readerArguments : Kind → List ℕ → FoundArguments
 readerArguments Common t = noArguments t
 readerArguments PerPeer t = noArguments t
 readerArguments Stats t = noArguments t
@@ -103,11 +111,6 @@ argumentsOf Unknown t = FoundArguments.Nothing
 abbrev pub lineWith : Verb → View → FoundArguments → Line
 lineWith verb digits (FoundArguments.Arguments a) = Good (record { verb = verb; arguments = a; digits = digits })
 lineWith verb digits FoundArguments.Nothing = Bad
-
--- how many bytes stand before the first space, all of them where there is none
-unfoldable pub spaceIn : List ℕ → ℕ
-spaceIn [] = 0
-spaceIn (b ∷ l) = pick (eqb b 32) 0 (suc (spaceIn l))
 
 -- a line by its verb and, behind the first space, the rest
 abbrev pub behindVerb : Verb → ℕ → List ℕ → Line

@@ -5,7 +5,7 @@ use Prim.Native.String.{String, len, charAt}
 use mathlib.Core.Bool.{Bool, true, false}
 use mathlib.Core.List.{List, [], _∷_}
 use lib.Dec.{eqb}
-use lib.ListN.{length}
+use lib.ListN.{length, take, drop}
 use Rattle.wire.specs.Bytes.{pick}
 
 -- a word of ASCII, a byte for each character
@@ -23,6 +23,20 @@ starts (a ∷ t) (b ∷ w) = pick (eqb a b) (starts t w) false
 
 abbrev pub same : List ℕ → List ℕ → Bool
 same t w = pick (eqb (length t) (length w)) (starts t w) false
+
+-- how many bytes stand before the first space, all of them where there is none
+unfoldable pub spaceIn : List ℕ → ℕ
+spaceIn [] = 0
+spaceIn (b ∷ l) = pick (eqb b 32) 0 (suc (spaceIn l))
+
+-- a word with spaces behind it
+abbrev pub wordOf : List ℕ → List ℕ
+wordOf cell = take (spaceIn cell) cell
+
+-- the place of a text among words that stand in 14 bytes each, their number where it is none of them
+unfoldable pub wordIn : ℕ → List ℕ → List ℕ → ℕ
+wordIn zero words t = 0
+wordIn (suc n) words t = pick (same t (wordOf (take 14 words))) 0 (suc (wordIn n (drop 14 words) t))
 
 -- a row of a table: a word and what it stands for
 pub record Row (A : Type 0) : Type 0 where

@@ -1,42 +1,24 @@
 // A line for the replay program, taken apart (docs/REPLAY.md, "Input").
+use kinds::Arguments;
+use kinds::Kind;
 use models::Afi;
 use models::AsnLength;
 use peer_type::BmpPeerType;
 use wire::View;
 ghost use mathlib.Core.Path.{_≡_};
-ghost use Prim.Native.Nat.{_/_, _%_, _≤_};
+ghost use Prim.Native.Nat.{_*_, _/_, _%_, _≤_};
 ghost use lib.ListN.{length};
 ghost use lib.Seq.{sets};
-ghost use Rattle.replay_line.specs.Words.{starts, same};
-ghost use Rattle.replay_line.specs.Line.{readerOf, reading, rewriting, verbOf, found, peerArguments, sessionArguments, noArguments, readerArguments, argumentsOf, lineWith, spaceIn, lineOf};
+ghost use Rattle.replay_line.specs.Words.{starts, same, spaceIn, wordOf, wordIn};
+ghost use Rattle.replay_line.specs.Line.{readerOf, reading, rewriting, verbOf, found, peerArguments, sessionArguments, noArguments, readerArguments, argumentsOf, lineWith, lineOf, asnAt, typeAt};
 ghost use Rattle.replay_line.specs.Digits.{digitValue, bytesOf, pairsFit, pairsUnhexed, unhexed, unhexedInto};
 
-pub enum Reader {
-    Common,
-    PerPeer,
-    Stats,
-    Initiation,
-    Termination,
-    PeerDown,
-    OpenBmp,
-    Mirroring,
-    Monitoring,
-    PeerUp,
-}
-
 pub enum Verb {
-    Read(Reader),
-    Rewrite(Reader),
+    Read(Kind),
+    Rewrite(Kind),
     Split,
     Equal,
     Unknown,
-}
-
-// What a line says beside its bytes. Where a verb takes no such argument, it is the first of its kind.
-pub struct Arguments {
-    pub afi: Afi,
-    pub asn_len: AsnLength,
-    pub peer_type: BmpPeerType,
 }
 
 // A verb, its arguments, and where in the line its digits stand.
@@ -59,7 +41,7 @@ pub enum Unhexed {
 }
 
 enum FoundReader {
-    Reader(Reader),
+    Reader(Kind),
     Nothing,
 }
 
@@ -154,37 +136,42 @@ fn rewriting(reader: FoundReader) -> Verb
 fn reader_of(text: &[u8]) -> FoundReader
     ensures { λ r. ⌜ r ≡ readerOf (now (text .entry)) ⌝ }
 {
-    if same(text, b"common") {
-        return FoundReader::Reader(Reader::Common);
+    let words = b"common        \
+        perpeer       \
+        openbmp       \
+        stats         \
+        initiation    \
+        termination   \
+        mirroring     \
+        peerup        \
+        peerdown      \
+        monitoring    ";
+    let i = word_in(words, 10, text);
+    if 10 <= i {
+        return FoundReader::Nothing;
     }
-    if same(text, b"perpeer") {
-        return FoundReader::Reader(Reader::PerPeer);
+    FoundReader::Reader(kinds::kind_at(i))
+}
+
+// The place of a text among words that stand in 14 bytes each, with spaces behind them; the number of words where it is none of them.
+fn word_in(words: &[u8], count: usize, text: &[u8]) -> usize
+    requires { ⌜ 14 * count ≤ length (now words) ⌝ }
+    ensures { λ r. ⌜ r ≡ wordIn count (now (words .entry)) (now (text .entry)) ⌝ }
+{
+    let mut i: usize = 0;
+    while i < count {
+        if is_word(&words[14 * i..14 * i + 14], text) {
+            return i;
+        }
+        i += 1;
     }
-    if same(text, b"stats") {
-        return FoundReader::Reader(Reader::Stats);
-    }
-    if same(text, b"initiation") {
-        return FoundReader::Reader(Reader::Initiation);
-    }
-    if same(text, b"termination") {
-        return FoundReader::Reader(Reader::Termination);
-    }
-    if same(text, b"peerdown") {
-        return FoundReader::Reader(Reader::PeerDown);
-    }
-    if same(text, b"openbmp") {
-        return FoundReader::Reader(Reader::OpenBmp);
-    }
-    if same(text, b"mirroring") {
-        return FoundReader::Reader(Reader::Mirroring);
-    }
-    if same(text, b"monitoring") {
-        return FoundReader::Reader(Reader::Monitoring);
-    }
-    if same(text, b"peerup") {
-        return FoundReader::Reader(Reader::PeerUp);
-    }
-    FoundReader::Nothing
+    i
+}
+
+fn is_word(cell: &[u8], text: &[u8]) -> bool
+    ensures { λ r. ⌜ r ≡ same (now (text .entry)) (wordOf (now (cell .entry))) ⌝ }
+{
+    same(text, &cell[0..space_in(cell)])
 }
 
 fn arguments_of(verb: Verb, text: &[u8]) -> FoundArguments
@@ -199,13 +186,13 @@ fn arguments_of(verb: Verb, text: &[u8]) -> FoundArguments
     }
 }
 
-fn reader_arguments(reader: Reader, text: &[u8]) -> FoundArguments
-    ensures { λ r. ⌜ r ≡ readerArguments reader (now (text .entry)) ⌝ }
+fn reader_arguments(kind: Kind, text: &[u8]) -> FoundArguments
+    ensures { λ r. ⌜ r ≡ readerArguments kind (now (text .entry)) ⌝ }
 {
-    match reader {
-        Reader::Mirroring => peer_arguments(Afi::Ipv4, text),
-        Reader::Monitoring => peer_arguments(Afi::Ipv4, text),
-        Reader::PeerUp => session_arguments(text),
+    match kind {
+        Kind::Mirroring => peer_arguments(Afi::Ipv4, text),
+        Kind::Monitoring => peer_arguments(Afi::Ipv4, text),
+        Kind::PeerUp => session_arguments(text),
         _ => no_arguments(text),
     }
 }
@@ -234,31 +221,39 @@ fn session_arguments(text: &[u8]) -> FoundArguments
 fn peer_arguments(afi: Afi, text: &[u8]) -> FoundArguments
     ensures { λ r. ⌜ r ≡ peerArguments afi (now (text .entry)) ⌝ }
 {
-    if same(text, b"asn=16,type=0") {
-        return found(afi, AsnLength::Bits16, BmpPeerType::Global);
+    let words = b"asn=16,type=0 \
+        asn=16,type=1 \
+        asn=16,type=2 \
+        asn=16,type=3 \
+        asn=32,type=0 \
+        asn=32,type=1 \
+        asn=32,type=2 \
+        asn=32,type=3 ";
+    let i = word_in(words, 8, text);
+    if 8 <= i {
+        return FoundArguments::Nothing;
     }
-    if same(text, b"asn=16,type=1") {
-        return found(afi, AsnLength::Bits16, BmpPeerType::RD);
+    found(afi, asn_length(i / 4), peer_type(i % 4))
+}
+
+fn asn_length(i: usize) -> AsnLength
+    ensures { λ r. ⌜ r ≡ asnAt i ⌝ }
+{
+    match i {
+        0 => AsnLength::Bits16,
+        _ => AsnLength::Bits32,
     }
-    if same(text, b"asn=16,type=2") {
-        return found(afi, AsnLength::Bits16, BmpPeerType::Local);
+}
+
+fn peer_type(i: usize) -> BmpPeerType
+    ensures { λ r. ⌜ r ≡ typeAt i ⌝ }
+{
+    match i {
+        0 => BmpPeerType::Global,
+        1 => BmpPeerType::RD,
+        2 => BmpPeerType::Local,
+        _ => BmpPeerType::LocalRib,
     }
-    if same(text, b"asn=16,type=3") {
-        return found(afi, AsnLength::Bits16, BmpPeerType::LocalRib);
-    }
-    if same(text, b"asn=32,type=0") {
-        return found(afi, AsnLength::Bits32, BmpPeerType::Global);
-    }
-    if same(text, b"asn=32,type=1") {
-        return found(afi, AsnLength::Bits32, BmpPeerType::RD);
-    }
-    if same(text, b"asn=32,type=2") {
-        return found(afi, AsnLength::Bits32, BmpPeerType::Local);
-    }
-    if same(text, b"asn=32,type=3") {
-        return found(afi, AsnLength::Bits32, BmpPeerType::LocalRib);
-    }
-    FoundArguments::Nothing
 }
 
 fn found(afi: Afi, asn_len: AsnLength, peer_type: BmpPeerType) -> FoundArguments

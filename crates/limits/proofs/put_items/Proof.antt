@@ -6,19 +6,16 @@ use Rattle.limits.proofs.put_items.Statement.{statement}
 use Rattle.limits.proofs.put_items.Tie as tie
 
 abbrev Inv-loop : tie.InvT-loop
-Inv-loop bytes₀ at size count next₀ i₀ t7 bytes next i = (i ≤ count) × (length bytes ≡ length bytes₀)
+Inv-loop bytes₀ at size count next₀ i₀ bytes next i = (i ≤ count) × (length bytes ≡ length bytes₀)
 
 abbrev μ-loop : tie.MeasureT-loop
-μ-loop bytes₀ at size count next₀ i₀ t7 bytes next i = count - i
+μ-loop bytes₀ at size count next₀ i₀ bytes next i = count - i
 
 loop-holds : tie.Need-loop-holds Inv-loop μ-loop
 loop-holds c = search needs
 
-slice-aggregate-put-tlv : tie.Need-slice-aggregate-put-tlv Inv-loop μ-loop
-slice-aggregate-put-tlv c = search needs
-
-put-tlv-requires : tie.Need-put-tlv-requires Inv-loop μ-loop
-put-tlv-requires c κs = search needs
+put-u32-requires : tie.Need-put-u32-requires Inv-loop μ-loop
+put-u32-requires c κs = search needs
 
 add-wrapping-add-usize : tie.Need-add-wrapping-add-usize Inv-loop μ-loop
 add-wrapping-add-usize c = search needs
@@ -48,8 +45,7 @@ put-items-spec =
     Inv-loop
     μ-loop
     loop-holds
-    slice-aggregate-put-tlv
-    put-tlv-requires
+    put-u32-requires
     add-wrapping-add-usize
     wrapping-add-usize-requires
     add-i

@@ -14,9 +14,6 @@ abbrev μ-loop : tie.MeasureT-loop
 loop-holds : tie.Need-loop-holds Inv-loop μ-loop
 loop-holds c = search needs
 
-kind-at-requires : tie.Need-kind-at-requires Inv-loop μ-loop
-kind-at-requires c κs = search needs
-
 try-writer-requires : tie.Need-try-writer-requires Inv-loop μ-loop
 try-writer-requires c κs = search needs
 
@@ -45,7 +42,6 @@ try-writers-spec =
     Inv-loop
     μ-loop
     loop-holds
-    kind-at-requires
     try-writer-requires
     add-i
     loop-less

@@ -6,11 +6,10 @@ use Rattle.replay.proofs.take_chunk.Statement.{statement}
 use Rattle.replay.proofs.take_chunk.Tie as tie
 
 abbrev Inv-loop : tie.InvT-loop
-Inv-loop chunk line₀ bytes₀ room₀ out₀ state₀ i₀ line bytes room out state i =
-    (i ≤ length chunk) × (((length line ≡ length line₀) × (length bytes ≡ length bytes₀)) × ((length room ≡ length room₀) × (length out ≡ length out₀)))
+Inv-loop chunk line₀ out₀ state₀ i₀ line out state i = (i ≤ length chunk) × ((length line ≡ length line₀) × (length out ≡ length out₀))
 
 abbrev μ-loop : tie.MeasureT-loop
-μ-loop chunk line₀ bytes₀ room₀ out₀ state₀ i₀ line bytes room out state i = length chunk - i
+μ-loop chunk line₀ out₀ state₀ i₀ line out state i = length chunk - i
 
 loop-holds : tie.Need-loop-holds Inv-loop μ-loop
 loop-holds c = search needs
@@ -36,12 +35,6 @@ same-length c = search needs
 same-length-2 : tie.Need-same-length-2 Inv-loop μ-loop
 same-length-2 c = search needs
 
-same-length-3 : tie.Need-same-length-3 Inv-loop μ-loop
-same-length-3 c = search needs
-
-same-length-4 : tie.Need-same-length-4 Inv-loop μ-loop
-same-length-4 c = search needs
-
 returns : tie.Need-returns Inv-loop μ-loop
 returns c = search needs
 
@@ -59,6 +52,4 @@ take-chunk-spec =
     loop-again
     same-length
     same-length-2
-    same-length-3
-    same-length-4
     returns)

@@ -6,12 +6,10 @@ use Rattle.replay.proofs.take_input.Statement.{statement}
 use Rattle.replay.proofs.take_input.Tie as tie
 
 abbrev Inv-loop : tie.InvT-loop
-Inv-loop chunk₀ line₀ bytes₀ room₀ out₀ state₀ reads₀ chunk line bytes room out state reads =
-    (reads ≤ 18446744073709551615) × (((length chunk ≡ length chunk₀) × ((length line ≡ length line₀) × (length bytes ≡ length bytes₀))) × ((length room ≡ length room₀) × (length out ≡ length out₀)))
+Inv-loop chunk₀ line₀ out₀ state₀ reads₀ chunk line out state reads = (reads ≤ 18446744073709551615) × ((length chunk ≡ length chunk₀) × ((length line ≡ length line₀) × (length out ≡ length out₀)))
 
 abbrev μ-loop : tie.MeasureT-loop
-μ-loop chunk₀ line₀ bytes₀ room₀ out₀ state₀ reads₀ chunk line bytes room out state reads =
-    18446744073709551615 - reads
+μ-loop chunk₀ line₀ out₀ state₀ reads₀ chunk line out state reads = 18446744073709551615 - reads
 
 loop-holds : tie.Need-loop-holds Inv-loop μ-loop
 loop-holds c = search needs
@@ -30,12 +28,6 @@ same-length-2 c = search needs
 
 same-length-3 : tie.Need-same-length-3 Inv-loop μ-loop
 same-length-3 c = search needs
-
-same-length-4 : tie.Need-same-length-4 Inv-loop μ-loop
-same-length-4 c = search needs
-
-same-length-5 : tie.Need-same-length-5 Inv-loop μ-loop
-same-length-5 c = search needs
 
 returns : tie.Need-returns Inv-loop μ-loop
 returns c = search needs
@@ -61,20 +53,14 @@ loop-less c = search needs
 loop-again : tie.Need-loop-again Inv-loop μ-loop
 loop-again c = search needs
 
+same-length-4 : tie.Need-same-length-4 Inv-loop μ-loop
+same-length-4 c = search needs
+
+same-length-5 : tie.Need-same-length-5 Inv-loop μ-loop
+same-length-5 c = search needs
+
 same-length-6 : tie.Need-same-length-6 Inv-loop μ-loop
 same-length-6 c = search needs
-
-same-length-7 : tie.Need-same-length-7 Inv-loop μ-loop
-same-length-7 c = search needs
-
-same-length-8 : tie.Need-same-length-8 Inv-loop μ-loop
-same-length-8 c = search needs
-
-same-length-9 : tie.Need-same-length-9 Inv-loop μ-loop
-same-length-9 c = search needs
-
-same-length-10 : tie.Need-same-length-10 Inv-loop μ-loop
-same-length-10 c = search needs
 
 returns-2 : tie.Need-returns-2 Inv-loop μ-loop
 returns-2 c = search needs
@@ -91,8 +77,6 @@ take-input-spec =
     same-length
     same-length-2
     same-length-3
-    same-length-4
-    same-length-5
     returns
     sub-take-chunk
     part-take-chunk-start
@@ -101,9 +85,7 @@ take-input-spec =
     add-reads
     loop-less
     loop-again
+    same-length-4
+    same-length-5
     same-length-6
-    same-length-7
-    same-length-8
-    same-length-9
-    same-length-10
     returns-2)

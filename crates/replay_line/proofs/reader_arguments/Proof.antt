@@ -36,7 +36,7 @@ returns-3 : tie.Need-returns-3
 returns-3 c = rw (c .before .enum-told3 .given .1) (c .session-arguments .ensures)
 
 returns-4 : tie.Need-returns-4
-returns-4 c = c .no-arguments .ensures ∙ sym (plain (c .before .before .before .args .reader) (now (c .before .before .before .args .text)) (c .before .match .keys4))
+returns-4 c = c .no-arguments .ensures ∙ sym (plain (c .before .before .before .args .kind) (now (c .before .before .before .args .text)) (c .before .match .keys4))
 
 pub reader-arguments-spec : {M : Type 1} → statement M
 reader-arguments-spec =

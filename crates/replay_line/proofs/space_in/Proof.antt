@@ -4,7 +4,7 @@ use denote.Ref.{now}
 use mathlib.Core.Path.{_≡_}
 use Prim.Native.Nat.{_+_, _-_, _≤_}
 use lib.ListN.{length, drop}
-use Rattle.replay_line.specs.Line.{spaceIn}
+use Rattle.replay_line.specs.Words.{spaceIn}
 use Rattle.replay_line.proofs.Laws.{space-here, space-more, space-none}
 use Rattle.replay_line.proofs.space_in.Statement.{statement}
 use Rattle.replay_line.proofs.space_in.Tie as tie

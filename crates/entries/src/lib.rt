@@ -1,0 +1,255 @@
+// An entry of a record's table as plain numbers, with the form that it is printed by (docs/REPLAY.md, "Forms").
+use forms::Shown;
+use initiation_message::InitiationTlv;
+use initiation_message::InitiationTlvType;
+use kinds::Arguments;
+use kinds::Kind;
+use peer_up_notification::PeerUpNotificationTlv;
+use peer_up_notification::PeerUpTlvType;
+use route_mirroring::RouteMirroringInfo;
+use route_mirroring::RouteMirroringTlv;
+use route_mirroring::RouteMirroringValue;
+use stats_data::StatsData;
+use stats_report::StatCounter;
+use stats_type::StatType;
+use termination_message::TerminationReason;
+use termination_message::TerminationTlv;
+use termination_message::TerminationTlvValue;
+use wire::View;
+ghost use Prim.Native.Nat.{_<_};
+
+// Added to the number of a type that has no name.
+const UNKNOWN: u64 = 65_536;
+
+// Reads the record again: a value that could hold any of five tables would hold all of them. A table of more than 32 entries is one of
+// statistics.
+pub fn entry(kind: Kind, arguments: Arguments, s: &[u8], i: usize) -> Shown {
+    if i < 32 {
+        return entry_at(kind, arguments, s, i);
+    }
+    if i < 64 {
+        return stats_entry(s, i);
+    }
+    nothing()
+}
+
+fn entry_at(kind: Kind, arguments: Arguments, s: &[u8], i: usize) -> Shown
+    requires { ⌜ i < 32 ⌝ }
+{
+    match kind {
+        Kind::Stats => stats_entry(s, i),
+        Kind::Initiation => initiation_entry(s, i),
+        Kind::Termination => termination_entry(s, i),
+        Kind::Mirroring => mirroring_entry(s, i),
+        Kind::PeerUp => peer_up_entry(arguments, s, i),
+        _ => nothing(),
+    }
+}
+
+fn nothing() -> Shown {
+    forms::of_five(kinds::NOTHING, 0, 0, 0, 0, 0, 0)
+}
+
+fn stats_entry(s: &[u8], i: usize) -> Shown
+    requires { ⌜ i < 64 ⌝ }
+{
+    let answer = stats_report::parse_stats_report(s);
+    let report = answer.report;
+    let counter = report.counters[i];
+    counter_entry(i as u64, counter)
+}
+
+fn counter_entry(i: u64, counter: StatCounter) -> Shown {
+    let stat_type = counter.stat_type;
+    let stat_data = counter.stat_data;
+    let kind = stats_type::kind_of(stat_type) as u64;
+    value_entry(
+        i,
+        kind,
+        counter.stat_len as u64,
+        stat_name(stat_type),
+        stat_data,
+    )
+}
+
+fn stat_name(stat_type: StatType) -> u64 {
+    match stat_type {
+        StatType::Other(_) => b'O' as u64,
+        _ => b'N' as u64,
+    }
+}
+
+fn value_entry(i: u64, kind: u64, size: u64, name: u64, value: StatsData) -> Shown {
+    match value {
+        StatsData::Counter(n) => of_seven(kinds::COUNTER, i, kind, size, name, n as u64, 0, 0),
+        StatsData::Gauge(n) => of_seven(kinds::GAUGE, i, kind, size, name, n, 0, 0),
+        StatsData::AfiSafiGauge(afi, safi, n) => of_seven(
+            kinds::AFI_SAFI_GAUGE,
+            i,
+            kind,
+            size,
+            name,
+            afi as u64,
+            safi as u64,
+            n,
+        ),
+        StatsData::Unknown(view) => of_seven(
+            kinds::RAW,
+            i,
+            kind,
+            size,
+            name,
+            view.place as u64,
+            view.length as u64,
+            0,
+        ),
+    }
+}
+
+fn of_seven(form: usize, a: u64, b: u64, c: u64, d: u64, e: u64, f: u64, g: u64) -> Shown {
+    Shown {
+        form: form,
+        count: 0,
+        numbers: [a, b, c, d, e, f, g, 0, 0, 0, 0, 0, 0, 0, 0, 0],
+    }
+}
+
+fn initiation_entry(s: &[u8], i: usize) -> Shown
+    requires { ⌜ i < 32 ⌝ }
+{
+    let answer = initiation_message::parse_initiation_message(s);
+    let message = answer.message;
+    let tlv = message.tlvs[i];
+    initiation_tlv(i as u64, tlv)
+}
+
+fn initiation_tlv(i: u64, tlv: InitiationTlv) -> Shown {
+    let info_type = tlv.info_type;
+    let info = tlv.info;
+    tlv_entry(i, initiation_type(info_type), tlv.info_len as u64, info)
+}
+
+fn initiation_type(info_type: InitiationTlvType) -> u64 {
+    match info_type {
+        InitiationTlvType::String => 0,
+        InitiationTlvType::SysDescr => 1,
+        InitiationTlvType::SysName => 2,
+        InitiationTlvType::VrTableName => 3,
+        InitiationTlvType::AdminLabel => 4,
+        InitiationTlvType::Unknown(number) => UNKNOWN + (number as u64),
+    }
+}
+
+fn tlv_entry(i: u64, kind: u64, size: u64, view: View) -> Shown {
+    let place = view.place as u64;
+    let length = view.length as u64;
+    if kind < UNKNOWN {
+        return forms::of_five(kinds::NAMED_TLV, 0, i, kind, size, place, length);
+    }
+    forms::of_five(
+        kinds::UNKNOWN_TLV,
+        0,
+        i,
+        kind - UNKNOWN,
+        size,
+        place,
+        length,
+    )
+}
+
+fn termination_entry(s: &[u8], i: usize) -> Shown
+    requires { ⌜ i < 32 ⌝ }
+{
+    let answer = termination_message::parse_termination_message(s);
+    let message = answer.message;
+    let tlv = message.tlvs[i];
+    termination_tlv(i as u64, tlv)
+}
+
+fn termination_tlv(i: u64, tlv: TerminationTlv) -> Shown {
+    let size = tlv.info_len as u64;
+    let value = tlv.info_value;
+    match value {
+        TerminationTlvValue::String(view) => text_entry(kinds::STRING, i, size, view),
+        TerminationTlvValue::Reason(reason) => {
+            forms::of_five(kinds::REASON, 0, i, size, reason_number(reason), 0, 0)
+        }
+    }
+}
+
+fn text_entry(form: usize, i: u64, size: u64, view: View) -> Shown {
+    forms::of_five(form, 0, i, size, view.place as u64, view.length as u64, 0)
+}
+
+fn reason_number(reason: TerminationReason) -> u64 {
+    match reason {
+        TerminationReason::AdministrativelyClosed => 0,
+        TerminationReason::UnspecifiedReason => 1,
+        TerminationReason::OutOfResources => 2,
+        TerminationReason::RedundantConnection => 3,
+        TerminationReason::PermanentlyAdministrativelyClosed => 4,
+    }
+}
+
+fn mirroring_entry(s: &[u8], i: usize) -> Shown
+    requires { ⌜ i < 32 ⌝ }
+{
+    let answer = route_mirroring::parse_route_mirroring(s);
+    let message = answer.message;
+    let tlv = message.tlvs[i];
+    mirroring_tlv(i as u64, tlv)
+}
+
+fn mirroring_tlv(i: u64, tlv: RouteMirroringTlv) -> Shown {
+    let size = tlv.info_len as u64;
+    let value = tlv.value;
+    match value {
+        RouteMirroringValue::BgpMessage(view) => text_entry(kinds::BGP_MESSAGE, i, size, view),
+        RouteMirroringValue::Information(info) => {
+            forms::of_five(
+                kinds::INFORMATION,
+                0,
+                i,
+                size,
+                information_number(info),
+                0,
+                0,
+            )
+        }
+    }
+}
+
+fn information_number(info: RouteMirroringInfo) -> u64 {
+    match info {
+        RouteMirroringInfo::ErroredPdu => 0,
+        RouteMirroringInfo::MessageLost => 1,
+    }
+}
+
+fn peer_up_entry(arguments: Arguments, s: &[u8], i: usize) -> Shown
+    requires { ⌜ i < 32 ⌝ }
+{
+    let afi = arguments.afi;
+    let peer_type = arguments.peer_type;
+    let answer = peer_up_notification::parse_peer_up_notification(s, afi, peer_type);
+    let message = answer.message;
+    let tlv = message.tlvs[i];
+    peer_up_tlv(i as u64, tlv)
+}
+
+fn peer_up_tlv(i: u64, tlv: PeerUpNotificationTlv) -> Shown {
+    let info_type = tlv.info_type;
+    let info = tlv.info_value;
+    tlv_entry(i, peer_up_type(info_type), tlv.info_len as u64, info)
+}
+
+fn peer_up_type(info_type: PeerUpTlvType) -> u64 {
+    match info_type {
+        PeerUpTlvType::String => 0,
+        PeerUpTlvType::SysDescr => 1,
+        PeerUpTlvType::SysName => 2,
+        PeerUpTlvType::VrTableName => 3,
+        PeerUpTlvType::AdminLabel => 4,
+        PeerUpTlvType::Unknown(number) => UNKNOWN + (number as u64),
+    }
+}

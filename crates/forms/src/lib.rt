@@ -1,0 +1,197 @@
+// Text by forms: a form is text with marks, each of which takes the next of a list of numbers (docs/REPLAY.md, "Forms"). It is put piece by
+// piece into a lent buffer, and each put answers the place after its piece; a piece that does not fit changes nothing.
+use wire::View;
+ghost use mathlib.Core.Path.{_≡_};
+ghost use Prim.Native.Nat.{_<_, _≤_};
+ghost use Rattle.writing.specs.Write.{putAt};
+ghost use Rattle.decimal.specs.Decimal.{decimal};
+ghost use Rattle.forms.specs.Text.{placeAfter, hexDigit, hex};
+
+// The number of a form, the numbers that go into it, and how many entries of a table follow it.
+pub struct Shown {
+    pub form: usize,
+    pub count: usize,
+    pub numbers: [u64; 16],
+}
+
+pub fn of_five(form: usize, count: usize, a: u64, b: u64, c: u64, d: u64, e: u64) -> Shown {
+    Shown {
+        form: form,
+        count: count,
+        numbers: [a, b, c, d, e, 0, 0, 0, 0, 0, 0, 0, 0, 0, 0, 0],
+    }
+}
+
+// Puts one of a text's forms, each of which ends at a bar.
+pub fn put_shown(out: &mut [u8], at: usize, forms: &[u8], shown: Shown, body: &[u8]) -> usize {
+    let form = form_at(forms, shown.form);
+    let numbers = shown.numbers;
+    put_form(out, at, form.part(forms), &numbers, body)
+}
+
+fn form_at(forms: &[u8], number: usize) -> View {
+    let mut start: usize = 0;
+    let mut i: usize = 0;
+    while i < number {
+        start = std::num::wrapping_add_usize(bar_from(forms, start), 1);
+        i += 1;
+    }
+    View {
+        place: start,
+        length: bar_from(forms, start) - start,
+    }
+}
+
+// The first bar from a place on; the end of the text, or the place itself, where there is none.
+fn bar_from(forms: &[u8], at: usize) -> usize
+    ensures { λ r. ⌜ at ≤ r ⌝ }
+{
+    let mut i = at;
+    while i < forms.len() {
+        if forms[i] == b'|' {
+            return i;
+        }
+        i += 1;
+    }
+    i
+}
+
+fn put_form(out: &mut [u8], at: usize, form: &[u8], numbers: &[u64], body: &[u8]) -> usize {
+    let mut next = at;
+    let mut taken: usize = 0;
+    let mut i: usize = 0;
+    while i < form.len() {
+        let mark = form[i];
+        next = put_piece(out, next, mark, numbers, taken, body);
+        taken += takes(mark);
+        i += 1;
+    }
+    next
+}
+
+fn takes(mark: u8) -> usize
+    ensures { λ r. ⌜ r ≤ 2 ⌝ }
+{
+    match mark {
+        b'#' | b'%' | b'&' | b'@' | b'!' | b',' => 1,
+        b'$' => 2,
+        _ => 0,
+    }
+}
+
+fn put_piece(
+    out: &mut [u8],
+    at: usize,
+    mark: u8,
+    numbers: &[u64],
+    taken: usize,
+    body: &[u8],
+) -> usize {
+    let n = number_at(numbers, taken);
+    match mark {
+        b'#' => put_decimal(out, at, n),
+        b'%' => put_hex_number(out, at, n, 7),
+        b'&' => put_hex_number(out, at, n, 4),
+        b'@' => put_hex_number(out, at, n, 0),
+        b'$' => put_part(out, at, body, n, numbers, taken),
+        b',' => put_comma(out, at, n),
+        b'!' => put_byte(out, at, n),
+        _ => put_byte(out, at, mark as u64),
+    }
+}
+
+fn number_at(numbers: &[u64], i: usize) -> u64 {
+    if i < numbers.len() {
+        return numbers[i];
+    }
+    0
+}
+
+fn put_byte(out: &mut [u8], at: usize, n: u64) -> usize {
+    let byte = [(n % 256) as u8];
+    put_text(out, at, &byte)
+}
+
+fn put_comma(out: &mut [u8], at: usize, n: u64) -> usize {
+    if n == 0 {
+        return at;
+    }
+    put_text(out, at, b",")
+}
+
+// The last bytes of the eight of a number, from this one on.
+fn put_hex_number(out: &mut [u8], at: usize, n: u64, from: usize) -> usize
+    requires { ⌜ from ≤ 8 ⌝ }
+{
+    let mut bytes = [0u8; 8];
+    writing::put_u64(&mut bytes, 0, n);
+    put_hex(out, at, &bytes[from..8])
+}
+
+fn put_part(
+    out: &mut [u8],
+    at: usize,
+    body: &[u8],
+    place: u64,
+    numbers: &[u64],
+    taken: usize,
+) -> usize {
+    if numbers.len() <= taken {
+        return at;
+    }
+    let part = View {
+        place: place as usize,
+        length: number_at(numbers, taken + 1) as usize,
+    };
+    put_hex(out, at, part.part(body))
+}
+
+fn put_text(out: &mut [u8], at: usize, text: &[u8]) -> usize
+    ensures { λ r. ⌜ r ≡ placeAfter (now (out .entry)) at (now (text .entry)) ⌝ }
+    ensures { λ _. ⌜ now (out .exit) ≡ putAt (now (out .entry)) at (now (text .entry)) ⌝ }
+{
+    if wire::left(out, at) < text.len() {
+        return at;
+    }
+    writing::put_bytes(out, at, text);
+    at + text.len()
+}
+
+// Two lower-case digits for each byte.
+fn put_hex(out: &mut [u8], at: usize, bytes: &[u8]) -> usize
+    ensures { λ r. ⌜ r ≡ placeAfter (now (out .entry)) at (hex (now (bytes .entry))) ⌝ }
+    ensures { λ _. ⌜ now (out .exit) ≡ putAt (now (out .entry)) at (hex (now (bytes .entry))) ⌝ }
+{
+    if wire::left(out, at) / 2 < bytes.len() {
+        return at;
+    }
+    let mut i: usize = 0;
+    while i < bytes.len() {
+        let byte = bytes[i];
+        out[at + 2 * i] = hex_digit(byte / 16);
+        out[at + 2 * i + 1] = hex_digit(byte % 16);
+        i += 1;
+    }
+    at + 2 * bytes.len()
+}
+
+fn hex_digit(d: u8) -> u8
+    requires { ⌜ d < 16 ⌝ }
+    ensures { λ r. ⌜ r ≡ hexDigit d ⌝ }
+{
+    if d < 10 { b'0' + d } else { b'a' - 10 + d }
+}
+
+// The digits of a number, with no zero in front.
+fn put_decimal(out: &mut [u8], at: usize, n: u64) -> usize
+    ensures { λ r. ⌜ r ≡ placeAfter (now (out .entry)) at (decimal n) ⌝ }
+    ensures { λ _. ⌜ now (out .exit) ≡ putAt (now (out .entry)) at (decimal n) ⌝ }
+{
+    let number = n as usize;
+    let count = decimal::digit_count(number);
+    if wire::left(out, at) < count {
+        return at;
+    }
+    decimal::put_decimal(out, at, number);
+    at + count
+}
