@@ -9,8 +9,8 @@ use lib.ListN.{length, length-map}
 use mir.Val.{Val}
 use denote.Laws.{Is}
 use denote.Struct.Laws as Struct
-use Rattle.writing.proofs.Tlv.{WalkedTlvFits, walked-of, walked-from}
 use Rattle.tlv_table.specs.Tlvs.{entryWritable}
+use Rattle.tlv_table.proofs.Walked.{WalkedTlvFits, walked-of, walked-from}
 use Rattle.tlv_table.proofs.Translated.{Translates}
 use Rattle.initiation_message.specs.Shown.{kindOf, places}
 use Rattle.initiation_message.specs.Write.{tlvWritable, writer, entryOf}

@@ -7,7 +7,7 @@ use native.Mathlib.Omega.{arith}
 use borrow.Author.Tests.{le-ltb}
 use lib.ListN.{length, drop, getD, replicate, length-replicate}
 use lib.Seq.{drop-at, length-take-le}
-use Rattle.wire.specs.Bytes.{Bytes, none}
+use Rattle.wire.specs.Bytes.{Bytes}
 use Rattle.wire.specs.Parts.{EachGood}
 use Rattle.wire.specs.Tlv.{Tlv, putTlv, sizeOf}
 use Rattle.wire.specs.View.{viewed}
@@ -15,22 +15,24 @@ use Rattle.wire.specs.declared.View.{View}
 use Rattle.wire.proofs.Bytes.{bytes-append, bytes-be, bytes-take, bytes-drop, num-lt}
 use Rattle.wire.proofs.Views.{bytes-viewed}
 use Rattle.wire.specs.Exactly.{Shows}
-use Rattle.writing.specs.Table.{parts, joined, allOk}
+use Rattle.writing.specs.Table.{parts, allOk}
 use Rattle.writing.proofs.Table.{kept-each}
 use Rattle.writing.proofs.Trip.{parts-back}
+use Rattle.tlv_table.proofs.Written.{view-long, good-fits}
+use Rattle.tlv_table.proofs.Translated.{bytes-translated}
 use Rattle.models.specs.declared.IpAddr.{IpAddr}
 use Rattle.models.proofs.Promises.{equals-is-equality}
 use Rattle.peer_type.specs.declared.BmpPeerType.{BmpPeerType}
 use Rattle.peer_up_notification.specs.Grammar.{messageBytes, ReadTlv, skippedFor, Reading, join}
 use Rattle.peer_up_notification.specs.Shown.{kindOf, zeroTlv, places, entry, tlvsAt, shownAddress, shown}
 use Rattle.peer_up_notification.specs.Read.{localAddress, reader}
-use Rattle.peer_up_notification.specs.Write.{openOf, partOf, addressWritable, openWritable, writer, kept, bytesOf, tlvsWritable, writable, Typed, SameTlv, Same}
+use Rattle.peer_up_notification.specs.Write.{openOf, partOf, addressWritable, openWritable, writer, kept, bytesOf, tlvsWritable, writable, entryOf, Typed, SameTlv, Same}
 use Rattle.peer_up_notification.specs.declared.PeerUpNotificationTlv.{PeerUpNotificationTlv}
 use Rattle.peer_up_notification.specs.declared.PeerUpNotification.{PeerUpNotification}
 use Rattle.peer_up_notification.specs.declared.PeerUpAnswer.{PeerUpAnswer}
 use Rattle.peer_up_notification.proofs.Names.{kindOf-typeOf}
 use Rattle.peer_up_notification.proofs.Opens.{OneMessage, one-message}
-use Rattle.peer_up_notification.proofs.Written.{fine-from, open-from, view-long}
+use Rattle.peer_up_notification.proofs.Written.{fine-from, translates, open-from}
 use Rattle.peer_up_notification.proofs.Shows.{ViewAt, ShowsParts}
 use Rattle.peer_up_notification.proofs.Trip.{zeros-bytes, ReadsBack}
 
@@ -60,14 +62,7 @@ all-fine : (b : List ℕ) (l : List PeerUpNotificationTlv) (z : List ℕ) → Ea
     → ((i : ℕ) → i < length l → Within b (getD l i zeroTlv .«info_value»)) → allOk writer (length b) l ≡ true
 all-fine b [] z g h = refl
 all-fine b (t ∷ l) z g h =
-    let inside = h 0 (omega arith) in
-    let w = g .0 in
-    rw (fine-from (length b) t (record {
-      kind-fits = w .kind-fits;
-      size-fits = w .size-fits;
-      view-is = sym (view-long b (t .«info_value») inside) ∙ w .size-is;
-      within = inside;
-    }))
+    rw (fine-from (length b) t (good-fits _ _ (t .«info_value») b (g .0) (h 0 (omega arith))))
     (all-fine b l z (g .1) (λ i e. h (suc i) (omega arith)))
 
 -- an item that is shown as an entry is that entry's
@@ -81,12 +76,6 @@ one-part b s at x t v e =
 bytes-open : {x : List ℕ} → Bytes x → Bytes (messageBytes (openOf x))
 bytes-open p = bytes-append (bytes-take 16 p) (bytes-append (bytes-be 2 _) (bytes-drop 18 p))
 
-bytes-joined : (b : List ℕ) → Bytes b → (l : List PeerUpNotificationTlv) → Bytes (joined writer b l)
-bytes-joined b p [] = none
-bytes-joined b p (t ∷ l) =
-    bytes-append (bytes-be 2 (kindOf (t .«info_type»)))
-    (bytes-append (bytes-be 2 (t .«info_len»)) (bytes-append (bytes-viewed b (t .«info_value») p) (bytes-joined b p l)))
-
 pub bytes-written : (m : PeerUpNotification) (b : List ℕ) → Bytes b → Typed m → Bytes (bytesOf m b)
 bytes-written m b p t =
     let k = skippedFor (m .«local_addr» .afi) in
@@ -95,7 +84,7 @@ bytes-written m b p t =
     (bytes-append (bytes-be 2 (m .«local_port»))
     (bytes-append (bytes-be 2 (m .«remote_port»))
     (bytes-append (bytes-open (bytes-viewed b (m .«sent_open») p))
-    (bytes-append (bytes-open (bytes-viewed b (m .«received_open») p)) (bytes-joined b p (kept m)))))))
+    (bytes-append (bytes-open (bytes-viewed b (m .«received_open») p)) (bytes-translated writer 0 true entryOf translates b p (kept m)))))))
 
 -- ---- the whole record
 module _ (peer : BmpPeerType) (m : PeerUpNotification) (b : List ℕ) (p : Bytes b) (t : Typed m) (inside : Inside m b) (q : Reading)

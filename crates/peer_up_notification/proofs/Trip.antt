@@ -1,5 +1,6 @@
 -- A record that was written and is read again. Assumes nothing.
 use mathlib.Core.Path.{_≡_, refl, sym, ap, _∙_, subst}
+use mathlib.Core.Bool.{true}
 use mathlib.Core.List.{List}
 use Prim.Native.Nat.{ℕ, zero, suc}
 use native.Mathlib.Omega.{arith}
@@ -14,17 +15,18 @@ use Rattle.wire.proofs.Bytes.{bytes-drop}
 use Rattle.writing.proofs.Tlv.{tlv-good}
 use Rattle.writing.proofs.Table.{all-good, length-parts}
 use Rattle.writing.proofs.Trip.{each-same, end-sizes}
+use Rattle.tlv_table.proofs.Translated.{length-translated}
 use Rattle.peer_type.specs.declared.BmpPeerType.{BmpPeerType}
 use Rattle.peer_up_notification.specs.Grammar.{ReadTlv, skippedFor, Good}
 use Rattle.peer_up_notification.specs.Shown.{kindOf, zeroTlv, entry, tlvsAt, shown}
 use Rattle.peer_up_notification.specs.Read.{readPeerUp}
-use Rattle.peer_up_notification.specs.Write.{writer, kept, readingOf, bytesOf, Typed, SameTlv, Same}
+use Rattle.peer_up_notification.specs.Write.{writer, kept, readingOf, bytesOf, entryOf, Typed, SameTlv, Same}
 use Rattle.peer_up_notification.specs.declared.PeerUpNotificationTlv.{PeerUpNotificationTlv}
 use Rattle.peer_up_notification.specs.declared.PeerUpNotification.{PeerUpNotification}
 use Rattle.peer_up_notification.specs.declared.PeerUpAnswer.{PeerUpAnswer}
 use Rattle.peer_up_notification.proofs.Names.{kindOf-typeOf}
 use Rattle.peer_up_notification.proofs.Opens.{open-good, open-back}
-use Rattle.peer_up_notification.proofs.Written.{fine-of, one-of, Writes, length-bytes}
+use Rattle.peer_up_notification.proofs.Written.{fine-of, translates, one-of, Writes, length-bytes}
 use Rattle.peer_up_notification.proofs.Shows.{address-field, ViewAt, ShowsParts}
 
 pub zeros-bytes : (n : ℕ) → Bytes (replicate n 0)
@@ -43,8 +45,8 @@ good-of m b p t w =
       address-bytes = bytes-drop k (t .octets-bytes);
       local-port-fits = t .local-port-fits;
       remote-port-fits = t .remote-port-fits;
-      sent-good = open-good (viewed b (m .«sent_open»)) (one-of p (m .«sent_open») (w .sent));
-      received-good = open-good (viewed b (m .«received_open»)) (one-of p (m .«received_open») (w .received));
+      sent-good = open-good (viewed b (m .«sent_open»)) (one-of p (m .«sent_open») (w .front .sent));
+      received-good = open-good (viewed b (m .«received_open»)) (one-of p (m .«received_open») (w .front .received));
       each = all-good writer ReadTlv b (λ t l o e. tlv-good _ _ _ b (fine-of (length b) t o) p) (kept m) (w .table .fine);
       tail-good = (omega arith, none);
     }
@@ -68,13 +70,13 @@ reads-back peer m b p t w a v =
       read-good = ap (λ (y : PeerUpAnswer). y .refusal .number) a;
       whole = ap (λ (y : PeerUpAnswer). y .stop) a
           ∙ end-sizes writer sizeOf entry (ViewAt s) b (λ n t o. refl) (kept m) (tlvsAt (readingOf m b)) fine
-          ∙ omega (arith, length-bytes m b w (t .octets-long) p, w .sent .size-is, w .received .size-is);
+          ∙ omega (arith, length-bytes m b (w .front) (t .octets-long) p, length-translated writer 0 true entryOf translates b (kept m) fine, w .front .sent .size-is, w .front .received .size-is);
       same = subst (λ (y : PeerUpAnswer). Same m b (y .message) s) (sym a) (record {
-        address-same = sym (w .address-is);
+        address-same = sym (w .front .address-is);
         local-port-same = refl;
         remote-port-same = refl;
-        sent-same = sym (v .sent-shown ∙ open-back (viewed b (m .«sent_open»)) (one-of p (m .«sent_open») (w .sent)));
-        received-same = sym (v .received-shown ∙ open-back (viewed b (m .«received_open»)) (one-of p (m .«received_open») (w .received)));
+        sent-same = sym (v .sent-shown ∙ open-back (viewed b (m .«sent_open»)) (one-of p (m .«sent_open») (w .front .sent)));
+        received-same = sym (v .received-shown ∙ open-back (viewed b (m .«received_open»)) (one-of p (m .«received_open») (w .front .received)));
         count-same = sym n;
         tlv-same = λ i h.
             subst (λ (t : PeerUpNotificationTlv). SameTlv t b (getD (shown (m .«local_addr» .afi) peer (readingOf m b) .message .tlvs) i zeroTlv) s)

@@ -1,6 +1,6 @@
 -- What the writing kit asks of a Peer Up body, and what `writable` asks of a record. Assumes nothing.
-use mathlib.Core.Path.{_≡_, refl, sym, ap, ap₂, _∙_, subst}
-use mathlib.Core.Bool.{Bool, true, false, _&&_, and-false, and-eq-true-iff}
+use mathlib.Core.Path.{_≡_, refl, sym, ap, ap₂, _∙_}
+use mathlib.Core.Bool.{Bool, true, false, _&&_, and-false, and-assoc, and-eq-true-iff}
 use mathlib.Core.List.{List, [], _∷_, _++_, append-assoc}
 use Prim.Native.Nat.{ℕ, suc, _+_, _^_, _≤_, _<_}
 use native.Mathlib.Omega.{arith}
@@ -11,22 +11,31 @@ use lib.Seq.{sets}
 use mir.Val.{Val}
 use denote.Laws.{Is}
 use denote.Struct.Laws as Struct
-use Rattle.wire.specs.Bytes.{be, numAt, numberAt, Bytes, none, more}
+use Rattle.wire.specs.Bytes.{pick, be, numAt, numberAt, Bytes, none, more}
 use Rattle.wire.specs.View.{inside, viewed}
+use Rattle.wire.specs.declared.Refusal.{Refusal}
 use Rattle.wire.specs.declared.View.{View}
 use Rattle.wire.proofs.Bytes.{number-is}
-use Rattle.wire.proofs.Views.{inside-is, viewed-inside, length-part, bytes-viewed}
-use Rattle.writing.specs.Table.{joined, sizes}
-use Rattle.writing.specs.Write.{putAt}
-use Rattle.writing.proofs.Sets.{length-tlv, put-then, put-fits, length-put}
-use Rattle.writing.proofs.Tlv.{TlvFits, fits-of, fits-from, value-long}
-use Rattle.writing.proofs.Table.{Bodied, Kept, kept-of, length-joined, Going, starts}
+use Rattle.wire.proofs.Views.{inside-is, bytes-viewed}
+use Rattle.writing.specs.Table.{joined}
+use Rattle.writing.specs.Write.{putAt, writeAnswer, written}
+use Rattle.writing.specs.declared.WriteAnswer.{WriteAnswer}
+use Rattle.writing.specs.declared.WriteAnswer.the-variants.{Written, Refused}
+use Rattle.writing.proofs.Sets.{put-then, put-fits, length-put}
+use Rattle.writing.proofs.Tlv.{TlvFits, fits-of, fits-from}
+use Rattle.writing.proofs.Table.{Kept, kept-of}
+use Rattle.writing.proofs.Answers as Answers
+use Rattle.writing.proofs.Answers.{answered, left-alone, wrote, put-there}
+use Rattle.tlv_table.specs.Tlvs.{entryWritable, tableWritable, tableBytes, putBehind}
+use Rattle.tlv_table.specs.declared.TlvTable.{TlvTable}
+use Rattle.tlv_table.proofs.Written.{view-long, sets-in-front}
+use Rattle.tlv_table.proofs.Translated.{Translates, writable-same, bytes-same}
 use Rattle.models.specs.declared.IpAddr.{IpAddr}
 use Rattle.models.proofs.Promises.{equals-is-equality}
 use Rattle.peer_up_notification.specs.Grammar.{messageBytes, skippedFor}
 use Rattle.peer_up_notification.specs.Shown.{kindOf, places}
 use Rattle.peer_up_notification.specs.Read.{localAddress}
-use Rattle.peer_up_notification.specs.Write.{openOf, addressWritable, openWritable, tlvWritable, writer, oneTlv, kept, bytesOf, tlvsWritable, writable, frontBytes, frontLength}
+use Rattle.peer_up_notification.specs.Write.{openOf, addressWritable, openWritable, tlvWritable, writer, kept, bytesOf, tlvsWritable, frontWritable, writable, frontBytes, frontLength, entryOf, tableOf}
 use Rattle.peer_up_notification.specs.declared.PeerUpNotificationTlv.{PeerUpNotificationTlv}
 use Rattle.peer_up_notification.specs.declared.PeerUpNotification.{PeerUpNotification}
 use Rattle.peer_up_notification.proofs.Opens.{OneMessage, open-back}
@@ -46,15 +55,10 @@ pub fine-from : (room : ℕ) (t : PeerUpNotificationTlv) → TlvFits (kindOf (t 
 unfolding tlvWritable
 fine-from room t f = fits-from _ _ _ _ f
 
-pub bodied : Bodied writer oneTlv
-unfolding be
-bodied =
-    record {
-      put-is = λ b t r. refl;
-      length-is = λ b n t e.
-          length-tlv (kindOf (t .«info_type»)) (t .«info_len») (viewed b (t .«info_value»))
-          ∙ omega (arith, value-long _ _ _ b (fine-of (length b) t e));
-    }
+-- what is written for one TLV is that TLV
+pub translates : Translates writer 0 true entryOf
+unfolding tlvWritable entryWritable
+translates = record { ok-same = λ room n t. rw (le-leb 0 (t .«info_len») (omega arith)); size-same = λ t. refl; put-same = λ b t r. refl }
 
 -- ---- a BGP message
 pub record FineOpen (b : List ℕ) (v : View) : Type 0 where
@@ -93,9 +97,6 @@ open-from b v f =
       ),
     )
 
-pub view-long : (b : List ℕ) (v : View) → v .place + v .length ≤ length b → length (viewed b v) ≡ v .length
-view-long b v h = ap length (viewed-inside b v h) ∙ length-part b (v .place) (v .length) h
-
 -- as `open_writable` judges one that lies inside and has a header: by its own length, which is a number of two bytes
 last-decides : (a b c d : Bool) → a ≡ true → b ≡ true → (d ≡ true → c ≡ true) → d ≡ (a && (b && (c && d)))
 last-decides a b c true p q k = rw (p, q, k refl)
@@ -116,28 +117,44 @@ one-of {b} p v f =
     let n = view-long b v (f .within) in
     record { are-bytes = bytes-viewed b v p; has-header = omega (arith, f .has-header); size-is = f .size-is ∙ sym n }
 
--- ---- the whole record
-pub record Writes (m : PeerUpNotification) (b : List ℕ) : Type 0 where
+-- ---- what stands before the TLVs
+pub record FineFront (m : PeerUpNotification) (b : List ℕ) : Type 0 where
   pub address-is : localAddress (m .«local_addr» .afi) (m .«local_addr» .octets) ≡ m .«local_addr»
   pub sent : FineOpen b (m .«sent_open»)
   pub received : FineOpen b (m .«received_open»)
-  pub table : Kept writer places (m .count) (m .tlvs) (length b)
 
-pub writes-of : (m : PeerUpNotification) (b : List ℕ) → writable m b ≡ true → Writes m b
-writes-of m b e =
+pub front-of : (m : PeerUpNotification) (b : List ℕ) → frontWritable m b ≡ true → FineFront m b
+front-of m b e =
     let address = m .«local_addr» in
     let a = and-eq-true-iff (addressWritable address) _ .0 e in
-    let s = and-eq-true-iff (openWritable b (m .«sent_open»)) _ .0 (a .1) in
-    let r = and-eq-true-iff (openWritable b (m .«received_open»)) (tlvsWritable m (length b)) .0 (s .1) in
+    let s = and-eq-true-iff (openWritable b (m .«sent_open»)) (openWritable b (m .«received_open»)) .0 (a .1) in
     record {
       address-is = equals-is-equality (localAddress (address .afi) (address .octets)) address .0 (a .0);
       sent = open-of b (m .«sent_open») (s .0);
-      received = open-of b (m .«received_open») (r .0);
-      table = kept-of writer places (m .count) (m .tlvs) (length b) (r .1);
+      received = open-of b (m .«received_open») (s .1);
     }
 
+-- ---- the whole record
+pub record Writes (m : PeerUpNotification) (b : List ℕ) : Type 0 where
+  pub front : FineFront m b
+  pub table : Kept writer places (m .count) (m .tlvs) (length b)
+
+-- the front and the TLVs apart
+pub writable-parts : (m : PeerUpNotification) (b : List ℕ) → writable m b ≡ (frontWritable m b && tlvsWritable m (length b))
+writable-parts m b =
+    let a = addressWritable (m .«local_addr») in
+    let s = openWritable b (m .«sent_open») in
+    let r = openWritable b (m .«received_open») in
+    let t = tlvsWritable m (length b) in
+    ap (λ (x : Bool). a && x) (sym (and-assoc s r t)) ∙ sym (and-assoc a (s && r) t)
+
+pub writes-of : (m : PeerUpNotification) (b : List ℕ) → writable m b ≡ true → Writes m b
+writes-of m b e =
+    let p = and-eq-true-iff (frontWritable m b) (tlvsWritable m (length b)) .0 (sym (writable-parts m b) ∙ e) in
+    record { front = front-of m b (p .0); table = kept-of writer places (m .count) (m .tlvs) (length b) (p .1) }
+
 -- ---- its bytes: those before the TLVs, and then the TLVs
-module _ (m : PeerUpNotification) (b : List ℕ) (p : Bytes b) (w : Writes m b) where
+module _ (m : PeerUpNotification) (b : List ℕ) (p : Bytes b) (w : FineFront m b) where
   octets-are : replicate (skippedFor (m .«local_addr» .afi)) 0 ++ drop (skippedFor (m .«local_addr» .afi)) (m .«local_addr» .octets) ≡ m .«local_addr» .octets
   octets-are = ap (λ (a : IpAddr). a .octets) (w .address-is)
 
@@ -157,7 +174,7 @@ module _ (m : PeerUpNotification) (b : List ℕ) (p : Bytes b) (w : Writes m b) 
       ∙ ap₂ (λ (x y : List ℕ). x ++ (ports ++ y)) octets-are messages
       ∙ sym (append-assoc (m .«local_addr» .octets) (ports ++ (sent ++ received)) tlvs)
 
-module _ (m : PeerUpNotification) (b : List ℕ) (w : Writes m b) (sixteen : length (m .«local_addr» .octets) ≡ 16) where
+module _ (m : PeerUpNotification) (b : List ℕ) (w : FineFront m b) (sixteen : length (m .«local_addr» .octets) ≡ 16) where
   pub length-front : length (frontBytes m b) ≡ frontLength m
   unfolding be
   length-front =
@@ -192,23 +209,69 @@ module _ (m : PeerUpNotification) (b : List ℕ) (w : Writes m b) (sixteen : len
       let q1 = put-then out o1 o5 0 16 octets (local ++ (remote ++ (sent ++ received))) (omega (arith, n4, n5, d, sixteen, long)) e1 (omega (arith, sixteen)) q2 in
       q1 ∙ put-fits out 0 (frontBytes m b) (omega (arith, length-front, long))
 
-  pub length-bytes : Bytes b → length (bytesOf m b) ≡ frontLength m + sizes writer (kept m)
+  pub length-bytes : Bytes b → length (bytesOf m b) ≡ frontLength m + length (joined writer b (kept m))
   length-bytes p =
       ap length (bytes-are m b p w) ∙ length-append (frontBytes m b) (joined writer b (kept m))
-      ∙ omega (arith, length-front, length-joined writer bodied b (kept m) (w .table .fine))
+      ∙ ap (λ (n : ℕ). n + length (joined writer b (kept m))) length-front
 
--- the output, before and after what stands before the TLVs was put in front of it
-pub record Headed (m : PeerUpNotification) (b out₀ out : List ℕ) : Type 0 where
-  pub put-is : out ≡ sets out₀ 0 (frontBytes m b)
-  pub room : frontLength m + sizes writer (kept m) ≤ length out₀
+-- ---- the TLVs were put behind the front, or refused; then the front was put
+module _ (m : PeerUpNotification) (b : List ℕ) (p : Bytes b) (sixteen : length (m .«local_addr» .octets) ≡ 16) (out : List ℕ) (a : WriteAnswer) (ok : Bool)
+    (front : ℕ) (t : TlvTable) (ok-is : ok ≡ frontWritable m b) (front-is : front ≡ pick ok (frontLength m) 0) (table-is : t ≡ tableOf m)
+    (asked : a ≡ writeAnswer (ok && tableWritable t (length b)) (front + length (tableBytes t b)) (length out)) where
+  abbrev tlvs : List ℕ
+  tlvs = joined writer b (kept m)
 
-pub starts-tlvs : (m : PeerUpNotification) (b out₀ out : List ℕ) → Bytes b → Writes m b → length (m .«local_addr» .octets) ≡ 16 → Headed m b out₀ out
-    → Going writer bodied b out₀ (bytesOf m b) (kept m) (frontLength m) out
-starts-tlvs m b out₀ out p w sixteen h =
-    let n = length-front m b w sixteen in
-    subst (λ (k : ℕ). Going writer bodied b out₀ (bytesOf m b) (kept m) k out) n
-    (subst (λ (all : List ℕ). Going writer bodied b out₀ all (kept m) (length (frontBytes m b)) out) (sym (bytes-are m b p w))
-    (starts writer bodied b out₀ out (frontBytes m b) (kept m) (h .put-is) (w .table .fine) (omega (arith, h .room, n))))
+  bytes-is : tableBytes t b ≡ joined writer b (kept m)
+  bytes-is = ap (λ (u : TlvTable). tableBytes u b) table-is ∙ bytes-same writer 0 true entryOf translates (m .count) (m .tlvs) b
+
+  ok-all : (ok && tableWritable t (length b)) ≡ writable m b
+  ok-all =
+      ap₂ _&&_ ok-is (ap (λ (u : TlvTable). tableWritable u (length b)) table-is ∙ writable-same writer 0 true entryOf translates (m .count) (m .tlvs) (length b))
+      ∙ sym (writable-parts m b)
+
+  front-fine : writable m b ≡ true → front ≡ frontLength m
+  front-fine e =
+      let k = and-eq-true-iff (frontWritable m b) (tlvsWritable m (length b)) .0 (sym (writable-parts m b) ∙ e) in
+      front-is ∙ ap (λ (c : Bool). pick c (frontLength m) 0) (ok-is ∙ k .0)
+
+  long : writable m b ≡ true → length (bytesOf m b) ≡ front + length (tableBytes t b)
+  long e =
+      length-bytes m b (writes-of m b e .front) sixteen p
+      ∙ ap₂ _+_ (sym (front-fine e)) (ap length (sym bytes-is))
+
+  asked-so : a ≡ writeAnswer (writable m b) (front + length (tableBytes t b)) (length out)
+  asked-so = asked ∙ ap (λ (c : Bool). writeAnswer c (front + length (tableBytes t b)) (length out)) ok-all
+
+  pub answered-so : a ≡ writeAnswer (writable m b) (length (bytesOf m b)) (length out)
+  answered-so = answered (writable m b) (bytesOf m b) out (front + length (tableBytes t b)) long a asked-so
+
+  pub refused-so : (out′ : List ℕ) → out′ ≡ putBehind a front (tableBytes t b) out → (r : Refusal) → a ≡ Refused r
+      → out′ ≡ written (writable m b) (bytesOf m b) out
+  refused-so out′ e r q =
+      e ∙ ap (λ (x : WriteAnswer). putBehind x front (tableBytes t b) out) q
+      ∙ left-alone (writable m b) (bytesOf m b) out (front + length (tableBytes t b)) long a asked-so r q
+
+  module _ (k : ℕ) (q : a ≡ Written k) where
+    pub wrote-so : Answers.Writes (writable m b) (length (bytesOf m b)) (length out) k
+    wrote-so = wrote (writable m b) (bytesOf m b) out (front + length (tableBytes t b)) long a asked-so k q
+
+    pub front-was : (frontWritable m b ≡ true) × (frontLength m + length tlvs ≤ length out)
+    front-was =
+        let e = wrote-so .is-ok in (
+          and-eq-true-iff (frontWritable m b) (tlvsWritable m (length b)) .0 (sym (writable-parts m b) ∙ e) .0,
+          omega (arith, wrote-so .fits, length-bytes m b (writes-of m b e .front) sixteen p),
+        )
+
+    pub put-so : (out′ out″ : List ℕ) → out′ ≡ putBehind a front (tableBytes t b) out → out″ ≡ sets out′ 0 (frontBytes m b)
+        → out″ ≡ written (writable m b) (bytesOf m b) out
+    put-so out′ out″ e f =
+        let w = writes-of m b (wrote-so .is-ok) .front in
+        let n = length-front m b w sixteen in
+        let behind : out′ ≡ sets out (frontLength m) tlvs =
+        e ∙ ap (λ (x : WriteAnswer). putBehind x front (tableBytes t b) out) q ∙ ap₂ (λ (j : ℕ) (z : List ℕ). sets out j z) (front-fine (wrote-so .is-ok)) bytes-is in
+        put-there (writable m b) (bytesOf m b) out (front + length (tableBytes t b)) long a asked-so k q out″
+        (f ∙ ap (λ (o : List ℕ). sets o 0 (frontBytes m b)) behind ∙ sets-in-front (frontBytes m b) tlvs out (frontLength m) n (front-was .1)
+        ∙ ap (sets out 0) (sym (bytes-are m b p w)))
 
 -- what a slice of u8 holds are bytes, from what it says of each
 pub slice-bytes : (l : List ℕ) → ((i : ℕ) → getD l i 0 < 256) → Bytes l

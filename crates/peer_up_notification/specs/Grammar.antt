@@ -5,7 +5,7 @@
 --     local port        2 bytes
 --     remote port       2 bytes
 --     sent OPEN                   a whole BGP message (RFC 4271, section 4.1):
---       marker         16 bytes
+--       marker         16 bytes   any
 --       length          2 bytes   of the message, at least 19
 --       rest                      as many bytes as the length says beyond these 18
 --     received OPEN               the same
@@ -16,7 +16,8 @@
 --     tail                        at most 3 bytes
 --
 -- A TLV is read while at least 4 bytes are left: one of length 0 at the very end is a TLV here. Which family the address is of does
--- not stand in the body: the per-peer header tells it. Skipped bytes may be anything.
+-- not stand in the body: the per-peer header tells it. Skipped bytes may be anything, and so may a marker, which RFC 4271 has all ones:
+-- the reader does not look at it.
 use Prim.Native.Nat.{ℕ, _+_, _^_, _≤_, _<_}
 use mathlib.Core.Path.{_≡_}
 use mathlib.Core.List.{List, [], _∷_, _++_}

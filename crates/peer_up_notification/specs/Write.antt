@@ -1,16 +1,19 @@
 -- What the writer writes: the reading of a record, by the grammar's own parts; which records are writable; when two are the same.
 use Prim.Native.Nat.{ℕ, _+_, _-_, _^_, _<_}
 use mathlib.Core.Path.{_≡_}
-use mathlib.Core.Bool.{Bool, false, _&&_}
-use mathlib.Core.List.{List, [], _++_}
+use mathlib.Core.Bool.{Bool, true, false, _&&_}
+use mathlib.Core.List.{List, [], _++_, map}
 use lib.ListN.{length, take, drop, getD, replicate}
 use lib.Dec.{leb, ltb, eqb}
 use Rattle.wire.specs.Bytes.{pick, be, numAt, Bytes}
 use Rattle.wire.specs.View.{inside, viewed}
 use Rattle.wire.specs.Tlv.{Tlv, putTlv}
 use Rattle.wire.specs.declared.View.{View}
-use Rattle.writing.specs.Write.{tlvBytes, tlvFits}
+use Rattle.writing.specs.Write.{tlvFits}
 use Rattle.writing.specs.Table.{Writer, parts, allOk}
+use Rattle.tlv_table.specs.declared.TlvValue.the-variants.{Part}
+use Rattle.tlv_table.specs.declared.TlvEntry.{TlvEntry}
+use Rattle.tlv_table.specs.declared.TlvTable.{TlvTable}
 use Rattle.models.specs.Address.{sameAddress}
 use Rattle.models.specs.declared.IpAddr.{IpAddr}
 use Rattle.peer_up_notification.specs.Grammar.{Message, skippedFor, Reading, join}
@@ -51,10 +54,6 @@ writer =
       size = λ t. 4 + t .«info_len»;
     }
 
--- the bytes of one TLV alone
-abbrev pub oneTlv : List ℕ → PeerUpNotificationTlv → List ℕ
-oneTlv b t = tlvBytes (kindOf (t .«info_type»)) (t .«info_len») (viewed b (t .«info_value»))
-
 -- ---- the whole record: its entries below the count, zeros for what is skipped, and no tail
 abbrev pub kept : PeerUpNotification → List PeerUpNotificationTlv
 kept m = take (m .count) (m .tlvs)
@@ -83,6 +82,10 @@ writable m b =
     addressWritable (m .«local_addr»)
     && (openWritable b (m .«sent_open») && (openWritable b (m .«received_open») && tlvsWritable m (length b)))
 
+-- as the code judges it: all but the TLVs, and then those
+abbrev pub frontWritable : PeerUpNotification → List ℕ → Bool
+frontWritable m b = addressWritable (m .«local_addr») && (openWritable b (m .«sent_open») && openWritable b (m .«received_open»))
+
 -- the bytes before the TLVs of a writable record, and how many they are
 abbrev pub frontBytes : PeerUpNotification → List ℕ → List ℕ
 frontBytes m b =
@@ -91,6 +94,13 @@ frontBytes m b =
 
 abbrev pub frontLength : PeerUpNotification → ℕ
 frontLength m = 20 + (m .«sent_open» .length + m .«received_open» .length)
+
+-- ---- the table of TLVs that is written for a record
+abbrev pub entryOf : PeerUpNotificationTlv → TlvEntry
+entryOf t = record { kind = kindOf (t .«info_type»); size = t .«info_len»; value = Part (t .«info_value») }
+
+abbrev pub tableOf : PeerUpNotification → TlvTable
+tableOf m = record { tlvs = map entryOf (m .tlvs); count = m .count; least = 0; «empty_last» = true }
 
 -- ---- what the types of its fields say of every record
 pub record Typed (m : PeerUpNotification) : Type 0 where

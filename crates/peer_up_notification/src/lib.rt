@@ -4,6 +4,9 @@ use cursor::ReadU16;
 use models::Afi;
 use models::IpAddr;
 use peer_type::BmpPeerType;
+use tlv_table::TlvEntry;
+use tlv_table::TlvTable;
+use tlv_table::TlvValue;
 use wire::Refusal;
 use wire::View;
 use writing::WriteAnswer;
@@ -17,12 +20,11 @@ ghost use Rattle.wire.specs.Bytes.{pick};
 ghost use Rattle.wire.specs.Refusal.{refusal};
 ghost use Rattle.wire.specs.Walk.{readFrom};
 ghost use Rattle.layout.specs.Layout.{cutIn};
-ghost use Rattle.writing.specs.Write.{putAt, writeAnswer, written};
-ghost use Rattle.writing.specs.Table.{sizes};
+ghost use Rattle.writing.specs.Write.{writeAnswer, written};
 ghost use Rattle.peer_up_notification.specs.Grammar.{widths};
 ghost use Rattle.peer_up_notification.specs.Shown.{typeOf, kindOf, zeroTlv, messageOf, goodAnswer, refusedAnswer};
 ghost use Rattle.peer_up_notification.specs.Read.{localAddress, openAt, frontOf, stepAt, kit, headIn, headsIn, warningsIn, namesOf, heardOf, withTlvs, withReceived, readPeerUp};
-ghost use Rattle.peer_up_notification.specs.Write.{addressWritable, openWritable, tlvWritable, writer, oneTlv, kept, bytesOf, tlvsWritable, writable, frontBytes, frontLength};
+ghost use Rattle.peer_up_notification.specs.Write.{addressWritable, openWritable, kept, bytesOf, frontWritable, writable, frontBytes, frontLength, entryOf, tableOf};
 
 // 1 and 2 are the names of an Initiation message, whose numbers Peer Up shared before RFC 9736.
 pub enum PeerUpTlvType {
@@ -410,19 +412,19 @@ pub fn write_peer_up_notification(
     ensures { λ r. ⌜ r ≡ writeAnswer (writable message (now (buffer .entry))) (length (bytesOf message (now (buffer .entry)))) (length (now (out .entry))) ⌝ }
     ensures { λ _. ⌜ now (out .exit) ≡ written (writable message (now (buffer .entry))) (bytesOf message (now (buffer .entry))) (now (out .entry)) ⌝ }
 {
-    if !is_writable(message, buffer) {
-        return writing::write_answer(false, 0, out.len());
-    }
-    let answer = writing::write_answer(true, written_length(message), out.len());
+    let ok = front_writable(message, buffer);
+    let front = front_length(message, ok);
+    let answer = tlv_table::write_tlvs(table_of(message), front, ok, buffer, out);
     let WriteAnswer::Written(_) = answer else {
         return answer;
     };
-    put_message(message, buffer, out);
+    put_front(message, buffer, out);
     answer
 }
 
-fn is_writable(message: PeerUpNotification, buffer: &[u8]) -> bool
-    ensures { λ r. ⌜ r ≡ writable message (now (buffer .entry)) ⌝ }
+// All but the TLVs.
+fn front_writable(message: PeerUpNotification, buffer: &[u8]) -> bool
+    ensures { λ r. ⌜ r ≡ frontWritable message (now (buffer .entry)) ⌝ }
 {
     let local_addr = message.local_addr;
     let sent_open = message.sent_open;
@@ -433,10 +435,7 @@ fn is_writable(message: PeerUpNotification, buffer: &[u8]) -> bool
     if !open_writable(sent_open, buffer) {
         return false;
     }
-    if !open_writable(received_open, buffer) {
-        return false;
-    }
-    tlvs_writable(message, buffer.len())
+    open_writable(received_open, buffer)
 }
 
 fn address_writable(address: IpAddr) -> bool
@@ -461,75 +460,52 @@ fn open_writable(view: View, buffer: &[u8]) -> bool
     (wire::u16_at(part, 16) as usize) == view.length
 }
 
-fn tlvs_writable(message: PeerUpNotification, room: usize) -> bool
-    ensures { λ r. ⌜ r ≡ tlvsWritable message room ⌝ }
+// The lengths of OPENs that cannot be written may be any, so they are not added up.
+fn front_length(message: PeerUpNotification, ok: bool) -> usize
+    requires { ⌜ (ok ≡ true → message .«sent_open» .length < 256 ^ 2) × (ok ≡ true → message .«received_open» .length < 256 ^ 2) ⌝ }
+    ensures { λ r. ⌜ r ≡ pick ok (frontLength message) 0 ⌝ }
 {
-    let count = message.count;
-    if 32 < count {
-        return false;
+    if ok {
+        return 20 + (message.sent_open.length + message.received_open.length);
     }
-    let mut i: usize = 0;
-    while i < count {
-        let tlv = message.tlvs[i];
-        if !tlv_writable(tlv, room) {
-            return false;
-        }
-        i += 1;
-    }
-    true
+    0
 }
 
-fn tlv_writable(tlv: PeerUpNotificationTlv, room: usize) -> bool
-    ensures { λ r. ⌜ r ≡ tlvWritable room tlv ⌝ }
+fn table_of(message: PeerUpNotification) -> TlvTable
+    ensures { λ r. ⌜ r ≡ tableOf message ⌝ }
+{
+    let first = message.tlvs[0];
+    let none = entry_of(first);
+    let mut tlvs = [none; 32];
+    let mut i: usize = 0;
+    while i < 32 {
+        let tlv = message.tlvs[i];
+        tlvs[i] = entry_of(tlv);
+        i += 1;
+    }
+    TlvTable {
+        tlvs: tlvs,
+        count: message.count,
+        least: 0,
+        empty_last: true,
+    }
+}
+
+fn entry_of(tlv: PeerUpNotificationTlv) -> TlvEntry
+    ensures { λ r. ⌜ r ≡ entryOf tlv ⌝ }
 {
     let kind = tlv.info_type;
     let view = tlv.info_value;
-    writing::tlv_fits(kind_of(kind), tlv.info_len, view, room)
-}
-
-fn written_length(message: PeerUpNotification) -> usize
-    requires { ⌜ message .count ≤ 32 ⌝ }
-    requires { ⌜ (message .«sent_open» .length < 256 ^ 2) × (message .«received_open» .length < 256 ^ 2) ⌝ }
-    ensures { λ r. ⌜ r ≡ frontLength message + sizes writer (kept message) ⌝ }
-{
-    let count = message.count;
-    let mut length: usize = 20 + (message.sent_open.length + message.received_open.length);
-    let mut i: usize = 0;
-    while i < count {
-        let tlv = message.tlvs[i];
-        length += tlv_length(tlv);
-        i += 1;
-    }
-    length
-}
-
-fn tlv_length(tlv: PeerUpNotificationTlv) -> usize
-    ensures { λ r. ⌜ (r ≡ 4 + tlv .«info_len») × (r ≤ 65539) ⌝ }
-{
-    let size = tlv.info_len;
-    4 + (size as usize)
-}
-
-fn put_message(message: PeerUpNotification, buffer: &[u8], out: &mut [u8])
-    requires { ⌜ writable message (now buffer) ≡ true ⌝ }
-    requires { ⌜ frontLength message + sizes writer (kept message) ≤ length (now out) ⌝ }
-    ensures { λ _. ⌜ now (out .exit) ≡ sets (now (out .entry)) 0 (bytesOf message (now (buffer .entry))) ⌝ }
-{
-    let count = message.count;
-    put_front(message, buffer, out);
-    let mut at: usize = 20 + (message.sent_open.length + message.received_open.length);
-    let mut i: usize = 0;
-    while i < count {
-        let tlv = message.tlvs[i];
-        put_tlv(out, at, tlv, buffer);
-        at += tlv_length(tlv);
-        i += 1;
+    TlvEntry {
+        kind: kind_of(kind),
+        size: tlv.info_len,
+        value: TlvValue::Part(view),
     }
 }
 
 // In a writable record the octets that are skipped on reading are zero, so all sixteen are put as they are.
 fn put_front(message: PeerUpNotification, buffer: &[u8], out: &mut [u8])
-    requires { ⌜ writable message (now buffer) ≡ true ⌝ }
+    requires { ⌜ frontWritable message (now buffer) ≡ true ⌝ }
     requires { ⌜ frontLength message ≤ length (now out) ⌝ }
     ensures { λ _. ⌜ now (out .exit) ≡ sets (now (out .entry)) 0 (frontBytes message (now (buffer .entry))) ⌝ }
 {
@@ -544,15 +520,6 @@ fn put_front(message: PeerUpNotification, buffer: &[u8], out: &mut [u8])
     writing::put_bytes(out, 20, sent);
     let received = received_open.part(buffer);
     writing::put_bytes(out, 20 + sent_open.length, received);
-}
-
-fn put_tlv(out: &mut [u8], at: usize, tlv: PeerUpNotificationTlv, buffer: &[u8])
-    ensures { λ _. ⌜ now (out .exit) ≡ putAt (now (out .entry)) at (oneTlv (now (buffer .entry)) tlv) ⌝ }
-{
-    let kind = tlv.info_type;
-    let view = tlv.info_value;
-    let part = view.part(buffer);
-    writing::put_tlv(out, at, kind_of(kind), tlv.info_len, part);
 }
 
 // The number that stands for a TLV's type on the wire.

@@ -10,9 +10,9 @@ use mir.Val.{Val}
 use denote.Laws.{Is}
 use denote.Struct.Laws as Struct
 use Rattle.wire.specs.Tlv.{putTlv}
-use Rattle.writing.proofs.Tlv.{WalkedTlvFits, walked-of, walked-from}
 use Rattle.tlv_table.specs.Tlvs as Tlvs
 use Rattle.tlv_table.specs.Tlvs.{entryWritable}
+use Rattle.tlv_table.proofs.Walked.{WalkedTlvFits, walked-of, walked-from}
 use Rattle.tlv_table.proofs.Translated.{Translates}
 use Rattle.termination_message.specs.Grammar.{put}
 use Rattle.termination_message.specs.Shown.{places}

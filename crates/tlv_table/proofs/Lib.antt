@@ -1,3 +1,4 @@
+pub mod Walked
 pub mod Written
 pub mod Translated
 pub mod Promises

@@ -1,14 +1,14 @@
 -- What the writing kit asks of a table of TLVs, and what the writer's answer tells. Assumes nothing.
 use mathlib.Core.Path.{_≡_, refl, sym, ap, ap₂, _∙_, subst}
 use mathlib.Core.Bool.{Bool, true, false, _&&_, and-eq-true-iff}
-use mathlib.Core.List.{List, [], _∷_, _++_}
+use mathlib.Core.List.{List, [], _∷_, _++_, append-assoc}
 use Prim.Native.Nat.{ℕ, _+_, _≤_}
 use native.Mathlib.Omega.{arith}
 use native.Mathlib.Nat.{zero-add}
 use borrow.Author.Tests.{ltb-true, lt-ltb, eqb-true}
 use lib.Dec.{leb, ltb}
-use lib.ListN.{length, take, drop, length-map, take-append-drop}
-use lib.Seq.{sets, sets-eq, length-take-le}
+use lib.ListN.{length, take, drop, length-append, length-map, take-append-drop}
+use lib.Seq.{sets, sets-eq, length-sets, drop-at, length-take-le}
 use mir.Val.{Val}
 use denote.Laws.{Is}
 use denote.Struct.Laws as Struct
@@ -21,19 +21,20 @@ use Rattle.wire.specs.declared.Refusal.{Refusal}
 use Rattle.wire.specs.declared.View.{View}
 use Rattle.wire.proofs.Bytes.{length-be, bytes-be, bytes-append}
 use Rattle.wire.proofs.Views.{viewed-inside, length-part, bytes-viewed}
-use Rattle.writing.specs.Write.{tlvFits, walkedTlvFits, writeAnswer}
+use Rattle.writing.specs.Write.{tlvFits, writeAnswer}
 use Rattle.writing.specs.Table.{joined, sizes}
 use Rattle.writing.specs.declared.WriteAnswer.{WriteAnswer}
 use Rattle.writing.specs.declared.WriteAnswer.the-variants.{Written, Refused}
 use Rattle.writing.proofs.Answers.{Writes, writes}
 use Rattle.writing.proofs.Sets.{sets-append, length-tlv}
-use Rattle.writing.proofs.Tlv.{TlvFits, fits-of, walked-of, value-long}
+use Rattle.writing.proofs.Tlv.{TlvFits, fits-of, value-long}
 use Rattle.writing.proofs.Table.{Bodied, Kept, kept-of, Going, starts}
-use Rattle.tlv_table.specs.Tlvs.{valueBytes, partWritable, valueWritable, entryWritable, writer, oneTlv, places, kept, tableWritable, tableBytes, putBehind, lengthBehind}
+use Rattle.tlv_table.specs.Tlvs.{valueBytes, walkedTlvFits, partWritable, valueWritable, entryWritable, writer, oneTlv, places, kept, tableWritable, tableBytes, putBehind, lengthBehind}
 use Rattle.tlv_table.specs.declared.TlvValue.{TlvValue}
 use Rattle.tlv_table.specs.declared.TlvValue.the-variants.{Part}
 use Rattle.tlv_table.specs.declared.TlvEntry.{TlvEntry}
 use Rattle.tlv_table.specs.declared.TlvTable.{TlvTable}
+use Rattle.tlv_table.proofs.Walked.{walked-of}
 use Rattle.tlv_table.proofs.TlvTable as Table
 use Rattle.tlv_table.proofs.TlvTable.Laws as TableLaws
 
@@ -117,6 +118,17 @@ module _ (t : TlvTable) (front : ℕ) (b out : List ℕ) where
   ends-behind out′ h p =
       p ∙ sets-append (take front out) (tableBytes t b) out 0
       ∙ ap₂ (λ (o : List ℕ) (k : ℕ). sets o k (tableBytes t b)) (front-again front out h) (zero-add (length (take front out)) ∙ length-take-le front out h)
+
+-- bytes that are put in front of those that stand behind them
+pub sets-in-front : (a t out : List ℕ) (n : ℕ) → length a ≡ n → n + length t ≤ length out → sets (sets out n t) 0 a ≡ sets out 0 (a ++ t)
+sets-in-front a t out n e h =
+    let r = drop (n + length t) out in
+    let behind : drop n (sets out n t) ≡ t ++ r =
+    ap (drop n) (sets-eq t out n h ∙ append-assoc (take n out) t r) ∙ drop-at (take n out) (t ++ r) n (length-take-le n out (omega (arith, h))) in
+    let both : length (a ++ t) ≡ n + length t = length-append a t ∙ ap (λ (k : ℕ). k + length t) e in
+    sets-eq a (sets out n t) 0 (omega (arith, e, h, length-sets out n t))
+    ∙ ap (λ (k : ℕ). a ++ drop k (sets out n t)) (zero-add (length a) ∙ e) ∙ ap (λ (l : List ℕ). a ++ l) behind ∙ sym (append-assoc a t r)
+    ∙ sym (sets-eq (a ++ t) out 0 (omega (arith, both, h)) ∙ ap (λ (k : ℕ). a ++ t ++ drop k out) (zero-add (length (a ++ t)) ∙ both))
 
 pub both : (a b : Bool) → (a && b) ≡ true → (a ≡ true) × (b ≡ true)
 both a b e = and-eq-true-iff a b .0 e

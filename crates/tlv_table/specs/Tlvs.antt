@@ -1,6 +1,6 @@
 -- Which tables of TLVs are writable, the bytes of one, and where they are put. Nothing here takes an input apart.
 use Prim.Native.Nat.{ℕ, _+_}
-use mathlib.Core.Bool.{Bool, false}
+use mathlib.Core.Bool.{Bool, true, false}
 use mathlib.Core.List.{List}
 use lib.ListN.{take}
 use lib.Seq.{sets}
@@ -10,7 +10,7 @@ use Rattle.wire.specs.Bytes.{pick, be}
 use Rattle.wire.specs.View.{view, viewed}
 use Rattle.wire.specs.Tlv.{Tlv, putTlv}
 use Rattle.wire.specs.declared.View.{View}
-use Rattle.writing.specs.Write.{tlvBytes, tlvFits, walkedTlvFits}
+use Rattle.writing.specs.Write.{tlvBytes, tlvFits}
 use Rattle.writing.specs.Table.{Writer, joined, allOk}
 use Rattle.writing.specs.declared.WriteAnswer.{WriteAnswer}
 use Rattle.writing.specs.declared.WriteAnswer.the-variants.{Written, Refused}
@@ -26,6 +26,11 @@ valueBytes b (TlvValue.Number n) = be 2 n
 
 abbrev pub partOf : List ℕ → TlvEntry → Tlv
 partOf b t = record { kind = t .kind; size = t .size; value = valueBytes b (t .value) }
+
+-- ---- a TLV that can be written from a view, for a walk that goes on while more than 4 bytes are left, with this many TLVs after it:
+-- not a last one of length 0, which the reader would take for a tail
+unfoldable pub walkedTlvFits : ℕ → ℕ → View → ℕ → ℕ → Bool
+walkedTlvFits kind size v room after = pick (tlvFits kind size v room) (pick (ltb 0 size) true (ltb 0 after)) false
 
 -- ---- an entry is writable, by the buffer's length and the number of entries after it: a part that has the least length and can be
 -- written from its view, the last one not empty unless it may be; a number of length 2

@@ -4,7 +4,7 @@ use mathlib.Core.Bool.{Bool, true, false}
 use mathlib.Core.List.{List}
 use Prim.Native.Nat.{ℕ, _+_, _^_, _≤_, _<_}
 use native.Mathlib.Omega.{arith}
-use borrow.Author.Tests.{leb-true, ltb-true, ltb-false, eqb-true, lt-ltb, eq-eqb}
+use borrow.Author.Tests.{leb-true, ltb-true, eqb-true, lt-ltb, eq-eqb}
 use lib.Dec.{ltb, eqb}
 use lib.ListN.{length}
 use Rattle.wire.specs.Bytes.{pick, Bytes}
@@ -12,7 +12,7 @@ use Rattle.wire.specs.View.{inside, viewed}
 use Rattle.wire.specs.Tlv.{GoodTlv}
 use Rattle.wire.specs.declared.View.{View}
 use Rattle.wire.proofs.Views.{inside-is, viewed-inside, length-part, bytes-viewed}
-use Rattle.writing.specs.Write.{tlvFits, walkedTlvFits}
+use Rattle.writing.specs.Write.{tlvFits}
 
 pub record TlvFits (kind size : ℕ) (v : View) (room : ℕ) : Type 0 where
   pub kind-fits : kind < 256 ^ 2
@@ -58,31 +58,3 @@ module _ (kind size : ℕ) (v : View) (b : List ℕ) (f : TlvFits kind size v (l
         size-is = value-long;
         value-bytes = bytes-viewed b v p;
       }
-
--- ---- where more than 4 bytes must be left, and this many TLVs follow
-pub record WalkedTlvFits (kind size : ℕ) (v : View) (room after : ℕ) : Type 0 where
-  pub fits : TlvFits kind size v room
-  pub not-last-empty : 0 < size + after
-
-pub walked-of : (kind size : ℕ) (v : View) (room after : ℕ) → walkedTlvFits kind size v room after ≡ true → WalkedTlvFits kind size v room after
-unfolding walkedTlvFits
-walked-of kind size v room after e = go (tlvFits kind size v room) refl (ltb 0 size) refl (ltb 0 after) refl e
-  where
-    go : (a : Bool) → tlvFits kind size v room ≡ a → (b : Bool) → ltb 0 size ≡ b → (d : Bool) → ltb 0 after ≡ d
-        → pick a (pick b true d) false ≡ true → WalkedTlvFits kind size v room after
-    go false ha b hb d hd q = let z : _≡_ {A = ℕ} 0 1 = cc in absurd (omega arith)
-    go true ha true hb d hd q =
-        let x = ltb-true 0 size hb in
-        record { fits = fits-of _ _ _ _ ha; not-last-empty = omega arith }
-    go true ha false hb true hd q =
-        let x = ltb-true 0 after hd in
-        record { fits = fits-of _ _ _ _ ha; not-last-empty = omega arith }
-    go true ha false hb false hd q = let z : _≡_ {A = ℕ} 0 1 = cc in absurd (omega arith)
-
-pub walked-from : (kind size : ℕ) (v : View) (room after : ℕ) → WalkedTlvFits kind size v room after → walkedTlvFits kind size v room after ≡ true
-unfolding walkedTlvFits
-walked-from kind size v room after f = rw (fits-from _ _ _ _ (f .fits)) (go (ltb 0 size) refl)
-  where
-    go : (b : Bool) → ltb 0 size ≡ b → pick b true (ltb 0 after) ≡ true
-    go true h = refl
-    go false h = let z = ltb-false 0 size h in lt-ltb 0 after (omega (arith, f .not-last-empty))

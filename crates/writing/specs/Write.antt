@@ -1,7 +1,7 @@
 -- What every writer answers, and what stands in the output afterwards (docs/RULES.md, "Writers").
 use Prim.Native.Nat.{ℕ, _^_}
 use mathlib.Core.Path.{_≡_}
-use mathlib.Core.Bool.{Bool, true, false}
+use mathlib.Core.Bool.{Bool, false}
 use mathlib.Core.List.{List, _++_}
 use lib.ListN.{length, drop}
 use lib.Seq.{sets}
@@ -58,8 +58,3 @@ tlvBytes kind size bytes = be 2 kind ++ (be 2 size ++ bytes)
 unfoldable pub tlvFits : ℕ → ℕ → View → ℕ → Bool
 tlvFits kind size v room =
     pick (ltb kind (256 ^ 2)) (pick (ltb size (256 ^ 2)) (pick (eqb (v .length) size) (inside room v) false) false) false
-
--- the same for a walk that goes on while more than 4 bytes are left, with this many TLVs after it: not a last one of length 0, which
--- the reader would take for a tail
-unfoldable pub walkedTlvFits : ℕ → ℕ → View → ℕ → ℕ → Bool
-walkedTlvFits kind size v room after = pick (tlvFits kind size v room) (pick (ltb 0 size) true (ltb 0 after)) false

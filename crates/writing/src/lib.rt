@@ -4,7 +4,7 @@ use wire::View;
 ghost use mathlib.Core.Path.{_≡_};
 ghost use Rattle.wire.specs.Bytes.{be};
 ghost use Rattle.wire.specs.Refusal.{refusal};
-ghost use Rattle.writing.specs.Write.{putAt, tlvBytes, tlvFits, writeAnswer};
+ghost use Rattle.writing.specs.Write.{putAt, tlvFits, writeAnswer};
 ghost use Rattle.writing.specs.declared.WriteAnswer.the-variants.{Refused};
 
 // What a writer answers: the length written, or why it wrote nothing.
@@ -60,21 +60,6 @@ pub fn put_u64(out: &mut [u8], at: usize, n: u64)
     }
     put_u32(out, at, (n / 4_294_967_296) as u32);
     put_u32(out, at + 4, (n % 4_294_967_296) as u32);
-}
-
-// Puts type, length and value of a TLV at a place; where they do not fit, nothing changes.
-pub fn put_tlv(out: &mut [u8], at: usize, kind: u16, size: u16, value: &[u8])
-    ensures { λ _. ⌜ now (out .exit) ≡ putAt (now (out .entry)) at (tlvBytes kind size (now (value .entry))) ⌝ }
-{
-    if wire::left(out, at) < 4 {
-        return;
-    }
-    if wire::left(out, at + 4) < value.len() {
-        return;
-    }
-    put_u16(out, at, kind);
-    put_u16(out, at + 2, size);
-    put_bytes(out, at + 4, value);
 }
 
 // Whether a TLV can be written from a view of a buffer of length room. A two-byte type always can: it is asked for so that the

@@ -1,7 +1,7 @@
 use borrow.Author.Needs.{needs}
 use borrow.Author.Tests.{not-true, not-false, lt-ltb, le-ltb}
 use mathlib.Core.Path.{sym, _∙_}
-use Rattle.writing.specs.Write.{walkedTlvFits}
+use Rattle.tlv_table.specs.Tlvs.{walkedTlvFits}
 use Rattle.tlv_table.proofs.Written.{unfit}
 use Rattle.tlv_table.proofs.part_writable.Statement.{statement}
 use Rattle.tlv_table.proofs.part_writable.Tie as tie
