@@ -13,7 +13,7 @@ use Rattle.wire.specs.Tlv.{Tlv, putTlv, sizeOf}
 use Rattle.wire.specs.View.{viewed}
 use Rattle.wire.specs.declared.View.{View}
 use Rattle.wire.proofs.Bytes.{bytes-append, bytes-be, bytes-take, bytes-drop, num-lt}
-use Rattle.wire.proofs.Views.{bytes-viewed}
+use Rattle.wire.proofs.Views.{bytes-viewed, octets-zeros}
 use Rattle.wire.specs.Exactly.{Shows}
 use Rattle.writing.specs.Table.{parts, allOk}
 use Rattle.writing.proofs.Table.{kept-each}
@@ -34,7 +34,7 @@ use Rattle.peer_up_notification.proofs.Names.{kindOf-typeOf}
 use Rattle.peer_up_notification.proofs.Opens.{OneMessage, one-message}
 use Rattle.peer_up_notification.proofs.Written.{fine-from, translates, open-from}
 use Rattle.peer_up_notification.proofs.Shows.{ViewAt, ShowsParts}
-use Rattle.peer_up_notification.proofs.Trip.{zeros-bytes, ReadsBack}
+use Rattle.peer_up_notification.proofs.Trip.{ReadsBack}
 
 -- what the reader does not ask of a record, and the writer does: its views lie inside the buffer
 abbrev Within : List ℕ → View → Type 0
@@ -79,8 +79,8 @@ bytes-open p = bytes-append (bytes-take 16 p) (bytes-append (bytes-be 2 _) (byte
 pub bytes-written : (m : PeerUpNotification) (b : List ℕ) → Bytes b → Typed m → Bytes (bytesOf m b)
 bytes-written m b p t =
     let k = skippedFor (m .«local_addr» .afi) in
-    bytes-append (zeros-bytes k)
-    (bytes-append (bytes-drop k (t .octets-bytes))
+    bytes-append (octets-zeros k .are-bytes)
+    (bytes-append (bytes-drop k (t .octets .are-bytes))
     (bytes-append (bytes-be 2 (m .«local_port»))
     (bytes-append (bytes-be 2 (m .«remote_port»))
     (bytes-append (bytes-open (bytes-viewed b (m .«sent_open») p))

@@ -7,7 +7,7 @@ use native.Mathlib.Omega.{arith}
 use borrow.Author.Tests.{lt-ltb, le-ltb, ltb-false}
 use lib.Dec.{ltb}
 use lib.ListN.{length, take, drop, length-append, length-drop, take-append-drop}
-use lib.Seq.{take-at, drop-at, drop-drop, length-take-le}
+use lib.Seq.{take-at, drop-at, drop-drop}
 use Rattle.wire.specs.Number as Number
 use Rattle.wire.specs.Bytes.{pick, be, value, numAt, Bytes}
 use Rattle.wire.specs.Refusal.{refusal, cutAt}
@@ -17,7 +17,7 @@ use Rattle.wire.specs.declared.Refusal.{Refusal}
 use Rattle.cursor.specs.declared.Cursor.{Cursor}
 use Rattle.wire.specs.declared.View.{View}
 use Rattle.wire.proofs.Bytes.{bytes-append, bytes-be, bytes-take, bytes-drop, value-be, num-lt, num-back, part-back, num-drop, num-part}
-use Rattle.wire.proofs.Views.{length-part, viewed-part}
+use Rattle.wire.proofs.Views.{length-part, viewed-part, octets-part}
 use Rattle.peer_up_notification.specs.Grammar.{Message, messageBytes, GoodMessage}
 use Rattle.peer_up_notification.specs.Read.{openAt}
 use Rattle.peer_up_notification.specs.Write.{openOf}
@@ -28,25 +28,25 @@ use Rattle.peer_up_notification.specs.declared.Open.the-variants.{Broken
 module _ (m : Message) (g : GoodMessage m) where
   pub message-long : length (messageBytes m) ≡ m .size
   unfolding be
-  message-long = length-append (m .marker) (be 2 (m .size) ++ m .rest) ∙ omega (arith, g .marker-long, g .size-is)
+  message-long = length-append (m .marker) (be 2 (m .size) ++ m .rest) ∙ omega (arith, g .marker-fits .many, g .size-is)
 
   pub message-bytes : Bytes (messageBytes m)
-  message-bytes = bytes-append (g .marker-bytes) (bytes-append (bytes-be 2 (m .size)) (g .rest-bytes))
+  message-bytes = bytes-append (g .marker-fits .are-bytes) (bytes-append (bytes-be 2 (m .size)) (g .rest-bytes))
 
   -- its length, where r follows it
   pub message-size : (r : List ℕ) → numAt 2 (messageBytes m ++ r) 16 ≡ m .size
   unfolding be
   message-size r =
       ap (λ (l : List ℕ). numAt 2 l 16) (append-assoc (m .marker) (be 2 (m .size) ++ m .rest) r)
-      ∙ ap (λ (l : List ℕ). value (take 2 l)) (drop-at (m .marker) (be 2 (m .size) ++ (m .rest ++ r)) 16 (g .marker-long))
+      ∙ ap (λ (l : List ℕ). value (take 2 l)) (drop-at (m .marker) (be 2 (m .size) ++ (m .rest ++ r)) 16 (g .marker-fits .many))
       ∙ value-be 2 (m .size) (g .size-fits)
 
   pub open-join : openOf (messageBytes m) ≡ m
   unfolding be
   open-join =
       let behind = be 2 (m .size) ++ m .rest in
-      let marker-is : take 16 (messageBytes m) ≡ m .marker = take-at (m .marker) behind 16 (g .marker-long) in
-      let at16 : drop 16 (messageBytes m) ≡ behind = drop-at (m .marker) behind 16 (g .marker-long) in
+      let marker-is : take 16 (messageBytes m) ≡ m .marker = take-at (m .marker) behind 16 (g .marker-fits .many) in
+      let at16 : drop 16 (messageBytes m) ≡ behind = drop-at (m .marker) behind 16 (g .marker-fits .many) in
       let size-is : numAt 2 (messageBytes m) 16 ≡ m .size = ap (λ (l : List ℕ). value (take 2 l)) at16 ∙ value-be 2 (m .size) (g .size-fits) in
       let rest-is : drop 18 (messageBytes m) ≡ m .rest = sym (drop-drop 2 16 (messageBytes m)) ∙ ap (drop 2) at16 in
       λ i. record { marker = marker-is i; size = size-is i; rest = rest-is i }
@@ -63,8 +63,7 @@ module _ (x : List ℕ) (o : OneMessage x) where
       let h = o .has-header in
       let n = o .size-is in
       record {
-        marker-long = length-take-le 16 x (omega arith);
-        marker-bytes = bytes-take 16 (o .are-bytes);
+        marker-fits = octets-part (o .are-bytes) 0 16 (omega arith);
         size-fits = num-lt 2 16 (o .are-bytes);
         has-header = omega arith;
         size-is = omega (arith, length-drop 18 x);

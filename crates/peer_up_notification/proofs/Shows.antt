@@ -48,7 +48,7 @@ module _ (afi : Afi) (r : Reading) (g : Good afi r) where
   join-is = sym (append-assoc (r .skipped) (r .address) behind)
 
   field-long : length field ≡ 16
-  field-long = length-append (r .skipped) (r .address) ∙ ap₂ _+_ (g .skipped-long) (g .address-long) ∙ address-field afi
+  field-long = length-append (r .skipped) (r .address) ∙ ap₂ _+_ (g .skipped-fits .many) (g .address-fits .many) ∙ address-field afi
 
   pub field-at : take 16 (join r) ≡ field
   field-at = ap (take 16) join-is ∙ take-at field behind 16 field-long
@@ -87,7 +87,7 @@ module _ (afi : Afi) (r : Reading) (g : Good afi r) where
       let n = long-enough in
       let octets : sixteenAt s 0 ≡ field = rw (le-leb 16 (length s - 0) (omega arith)) field-at in
       let address : drop (skippedFor afi) (sixteenAt s 0) ≡ r .address =
-      ap (drop (skippedFor afi)) octets ∙ drop-at (r .skipped) (r .address) (skippedFor afi) (g .skipped-long) in
+      ap (drop (skippedFor afi)) octets ∙ drop-at (r .skipped) (r .address) (skippedFor afi) (g .skipped-fits .many) in
       let local-port = number-is 2 s 16 (omega arith) ∙ local-port-at in
       let remote-port = number-is 2 s 18 (omega arith) ∙ remote-port-at in
       λ i. record {

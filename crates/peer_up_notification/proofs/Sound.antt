@@ -14,6 +14,7 @@ use Rattle.wire.specs.Refusal.{refusal}
 use Rattle.wire.specs.Parts.{joinAll}
 use Rattle.wire.specs.Tlv.{Tlv, putTlv}
 use Rattle.wire.specs.Walk.{Out, good, refused, readFrom}
+use Rattle.wire.proofs.Views.{octets-part}
 use Rattle.cursor.specs.declared.Cursor.{Cursor}
 use Rattle.wire.specs.declared.View.{View}
 use Rattle.wire.proofs.Bytes.{length-be, be-injective, num-lt, num-back, bytes-take, bytes-drop}
@@ -120,10 +121,8 @@ module _ (afi : Afi) (s : List ℕ) (p : Bytes s) (a : Accepted s) where
       let n : length field ≡ 16 = length-take-le 16 s (omega (arith, a .long)) in
       let k = address-field afi in
       record {
-        skipped-long = length-take-le (skippedFor afi) field (omega arith);
-        skipped-bytes = bytes-take (skippedFor afi) (bytes-take 16 p);
-        address-long = length-drop (skippedFor afi) field ∙ omega arith;
-        address-bytes = bytes-drop (skippedFor afi) (bytes-take 16 p);
+        skipped-fits = octets-part (bytes-take 16 p) 0 (skippedFor afi) (omega arith);
+        address-fits = record { many = length-drop (skippedFor afi) field ∙ omega arith; are-bytes = bytes-drop (skippedFor afi) (bytes-take 16 p) };
         local-port-fits = num-lt 2 16 p;
         remote-port-fits = num-lt 2 18 p;
         sent-good = open-good sentBytes (found-one p sentAt (a .sent) (a .after-sent) (a .sent-found));
@@ -151,8 +150,8 @@ module _ (afi : Afi) (s : List ℕ) (p : Bytes s) (a : Accepted s) where
 -- ---- no input has two readings
 pub same-reading : (afi : Afi) (r q : Reading) → Good afi r → Good afi q → join r ≡ join q → r ≡ q
 same-reading afi r q g h e =
-    let skipped = split-same (r .skipped) (q .skipped) _ _ (g .skipped-long ∙ sym (h .skipped-long)) e in
-    let address = split-same (r .address) (q .address) _ _ (g .address-long ∙ sym (h .address-long)) (skipped .1) in
+    let skipped = split-same (r .skipped) (q .skipped) _ _ (g .skipped-fits .many ∙ sym (h .skipped-fits .many)) e in
+    let address = split-same (r .address) (q .address) _ _ (g .address-fits .many ∙ sym (h .address-fits .many)) (skipped .1) in
     let local = split-same (be 2 (r .localPort)) (be 2 (q .localPort)) _ _ (length-be 2 (r .localPort) ∙ sym (length-be 2 (q .localPort))) (address .1) in
     let remote = split-same (be 2 (r .remotePort)) (be 2 (q .remotePort)) _ _ (length-be 2 (r .remotePort) ∙ sym (length-be 2 (q .remotePort))) (local .1) in
     let sent = same-message (r .sentOpen) (q .sentOpen) _ _ (g .sent-good) (h .sent-good) (remote .1) in

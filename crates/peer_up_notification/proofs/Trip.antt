@@ -2,16 +2,16 @@
 use mathlib.Core.Path.{_≡_, refl, sym, ap, _∙_, subst}
 use mathlib.Core.Bool.{true}
 use mathlib.Core.List.{List}
-use Prim.Native.Nat.{ℕ, zero, suc}
+use Prim.Native.Nat.{ℕ}
 use native.Mathlib.Omega.{arith}
-use lib.Dec.{lit<}
-use lib.ListN.{length, getD, replicate, length-drop, length-replicate}
+use lib.ListN.{length, getD, length-drop}
 use lib.Seq.{getD-take, length-take-le}
 use Rattle.wire.specs.Number as Number
-use Rattle.wire.specs.Bytes.{Bytes, none, more}
+use Rattle.wire.specs.Bytes.{Bytes, none}
 use Rattle.wire.specs.Tlv.{sizeOf}
 use Rattle.wire.specs.View.{viewed}
 use Rattle.wire.proofs.Bytes.{bytes-drop}
+use Rattle.wire.proofs.Views.{octets-zeros}
 use Rattle.writing.proofs.Tlv.{tlv-good}
 use Rattle.writing.proofs.Table.{all-good, length-parts}
 use Rattle.writing.proofs.Trip.{each-same, end-sizes}
@@ -29,20 +29,14 @@ use Rattle.peer_up_notification.proofs.Opens.{open-good, open-back}
 use Rattle.peer_up_notification.proofs.Written.{fine-of, translates, one-of, Writes, length-bytes}
 use Rattle.peer_up_notification.proofs.Shows.{address-field, ViewAt, ShowsParts}
 
-pub zeros-bytes : (n : ℕ) → Bytes (replicate n 0)
-zeros-bytes zero = none
-zeros-bytes (suc n) = more (lit< tt) (zeros-bytes n)
-
 pub good-of : (m : PeerUpNotification) (b : List ℕ) → Bytes b → Typed m → Writes m b → Good (m .«local_addr» .afi) (readingOf m b)
 good-of m b p t w =
     let afi = m .«local_addr» .afi in
     let k = skippedFor afi in
     let octets = m .«local_addr» .octets in
     record {
-      skipped-long = length-replicate k 0;
-      skipped-bytes = zeros-bytes k;
-      address-long = length-drop k octets ∙ omega (arith, t .octets-long, address-field afi);
-      address-bytes = bytes-drop k (t .octets-bytes);
+      skipped-fits = octets-zeros k;
+      address-fits = record { many = length-drop k octets ∙ omega (arith, t .octets .many, address-field afi); are-bytes = bytes-drop k (t .octets .are-bytes) };
       local-port-fits = t .local-port-fits;
       remote-port-fits = t .remote-port-fits;
       sent-good = open-good (viewed b (m .«sent_open»)) (one-of p (m .«sent_open») (w .front .sent));
@@ -70,7 +64,7 @@ reads-back peer m b p t w a v =
       read-good = ap (λ (y : PeerUpAnswer). y .refusal .number) a;
       whole = ap (λ (y : PeerUpAnswer). y .stop) a
           ∙ end-sizes writer sizeOf entry (ViewAt s) b (λ n t o. refl) (kept m) (tlvsAt (readingOf m b)) fine
-          ∙ omega (arith, length-bytes m b (w .front) (t .octets-long) p, length-translated writer 0 true entryOf translates b (kept m) fine, w .front .sent .size-is, w .front .received .size-is);
+          ∙ omega (arith, length-bytes m b (w .front) (t .octets .many) p, length-translated writer 0 true entryOf translates b (kept m) fine, w .front .sent .size-is, w .front .received .size-is);
       same = subst (λ (y : PeerUpAnswer). Same m b (y .message) s) (sym a) (record {
         address-same = sym (w .front .address-is);
         local-port-same = refl;

@@ -22,7 +22,7 @@ use Prim.Native.Nat.{ℕ, _+_, _^_, _≤_, _<_}
 use mathlib.Core.Path.{_≡_}
 use mathlib.Core.List.{List, [], _∷_, _++_}
 use lib.ListN.{length}
-use Rattle.wire.specs.Bytes.{be, Bytes}
+use Rattle.wire.specs.Bytes.{be, Bytes, Octets}
 use Rattle.wire.specs.Parts.{joinAll, EachGood}
 use Rattle.wire.specs.Tlv.{Tlv, putTlv, GoodTlv}
 use Rattle.models.specs.declared.Afi.{Afi}
@@ -42,8 +42,7 @@ abbrev pub messageBytes : Message → List ℕ
 messageBytes m = m .marker ++ (be 2 (m .size) ++ m .rest)
 
 pub record GoodMessage (m : Message) : Type 0 where
-  pub marker-long : length (m .marker) ≡ 16
-  pub marker-bytes : Bytes (m .marker)
+  pub marker-fits : Octets 16 (m .marker)
   pub size-fits : m .size < 256 ^ 2
   pub has-header : 19 ≤ m .size
   pub size-is : 18 + length (m .rest) ≡ m .size
@@ -86,10 +85,8 @@ abbrev pub GoodTail : List ℕ → Type 0
 GoodTail z = (length z ≤ 3) × Bytes z
 
 pub record Good (afi : Afi) (r : Reading) : Type 0 where
-  pub skipped-long : length (r .skipped) ≡ skippedFor afi
-  pub skipped-bytes : Bytes (r .skipped)
-  pub address-long : length (r .address) ≡ addressFor afi
-  pub address-bytes : Bytes (r .address)
+  pub skipped-fits : Octets (skippedFor afi) (r .skipped)
+  pub address-fits : Octets (addressFor afi) (r .address)
   pub local-port-fits : r .localPort < 256 ^ 2
   pub remote-port-fits : r .remotePort < 256 ^ 2
   pub sent-good : GoodMessage (r .sentOpen)

@@ -5,7 +5,7 @@ use mathlib.Core.Bool.{Bool, true, false, _&&_}
 use mathlib.Core.List.{List, [], _++_, map}
 use lib.ListN.{length, take, drop, getD, replicate}
 use lib.Dec.{leb, ltb, eqb}
-use Rattle.wire.specs.Bytes.{pick, be, numAt, Bytes}
+use Rattle.wire.specs.Bytes.{pick, be, numAt, Octets}
 use Rattle.wire.specs.View.{inside, viewed}
 use Rattle.wire.specs.Tlv.{Tlv, putTlv}
 use Rattle.wire.specs.declared.View.{View}
@@ -104,8 +104,7 @@ tableOf m = record { tlvs = map entryOf (m .tlvs); count = m .count; least = 0; 
 
 -- ---- what the types of its fields say of every record
 pub record Typed (m : PeerUpNotification) : Type 0 where
-  pub octets-long : length (m .«local_addr» .octets) ≡ 16
-  pub octets-bytes : Bytes (m .«local_addr» .octets)
+  pub octets : Octets 16 (m .«local_addr» .octets)
   pub local-port-fits : m .«local_port» < 256 ^ 2
   pub remote-port-fits : m .«remote_port» < 256 ^ 2
   pub table-long : length (m .tlvs) ≡ places

@@ -14,8 +14,7 @@ typed : (c : tie.Start) → Typed (c .args .message)
 typed c =
     let octets = c .good .0 .1 .1 .0 .1 .1 .0 in
     record {
-      octets-long = search needs;
-      octets-bytes = array-bytes (c .args .message .«local_addr» .octets) (octets .0) (octets .1 .1);
+      octets = record { many = search needs; are-bytes = array-bytes (c .args .message .«local_addr» .octets) (octets .0) (octets .1 .1) };
       local-port-fits = omega (arith, c .good);
       remote-port-fits = omega (arith, c .good);
       table-long = table-long (c .args .message) _ (c .good .0);
@@ -46,16 +45,16 @@ same-length : tie.Need-same-length
 same-length c = search needs
 
 returns : tie.Need-returns
-returns c = (answered-so (c .before .before .before .before .before .before .before .before .before .before .before .args .message) (now (c .before .before .before .before .before .before .before .before .before .before .before .args .buffer)) (buffer-bytes (c .before .before .before .before .before .before .before .before .before .before)) (typed (c .before .before .before .before .before .before .before .before .before .before .before) .octets-long) (now (c .before .before .before .before .before .before .before .before .before .before .before .args .out)) (c .before .before .before .before .write-tlvs .result) (c .before .before .before .before .before .before .before .before .front-writable .result) (c .before .before .before .before .before .before .before .front-length .result) (c .before .before .before .before .before .before .table-of .result) (c .before .before .before .before .before .before .before .before .front-writable .ensures) (c .before .before .before .before .before .before .before .front-length .ensures) (c .before .before .before .before .before .before .table-of .ensures) (c .before .before .before .before .write-tlvs .ensures .0), refused-so (c .before .before .before .before .before .before .before .before .before .before .before .args .message) (now (c .before .before .before .before .before .before .before .before .before .before .before .args .buffer)) (buffer-bytes (c .before .before .before .before .before .before .before .before .before .before)) (typed (c .before .before .before .before .before .before .before .before .before .before .before) .octets-long) (now (c .before .before .before .before .before .before .before .before .before .before .before .args .out)) (c .before .before .before .before .write-tlvs .result) (c .before .before .before .before .before .before .before .before .front-writable .result) (c .before .before .before .before .before .before .before .front-length .result) (c .before .before .before .before .before .before .table-of .result) (c .before .before .before .before .before .before .before .before .front-writable .ensures) (c .before .before .before .before .before .before .before .front-length .ensures) (c .before .before .before .before .before .before .table-of .ensures) (c .before .before .before .before .write-tlvs .ensures .0) _ (c .before .before .before .before .write-tlvs .ensures .1) _ (c .enum-told2 .given .1))
+returns c = (answered-so (c .before .before .before .before .before .before .before .before .before .before .before .args .message) (now (c .before .before .before .before .before .before .before .before .before .before .before .args .buffer)) (buffer-bytes (c .before .before .before .before .before .before .before .before .before .before)) (typed (c .before .before .before .before .before .before .before .before .before .before .before) .octets .many) (now (c .before .before .before .before .before .before .before .before .before .before .before .args .out)) (c .before .before .before .before .write-tlvs .result) (c .before .before .before .before .before .before .before .before .front-writable .result) (c .before .before .before .before .before .before .before .front-length .result) (c .before .before .before .before .before .before .table-of .result) (c .before .before .before .before .before .before .before .before .front-writable .ensures) (c .before .before .before .before .before .before .before .front-length .ensures) (c .before .before .before .before .before .before .table-of .ensures) (c .before .before .before .before .write-tlvs .ensures .0), refused-so (c .before .before .before .before .before .before .before .before .before .before .before .args .message) (now (c .before .before .before .before .before .before .before .before .before .before .before .args .buffer)) (buffer-bytes (c .before .before .before .before .before .before .before .before .before .before)) (typed (c .before .before .before .before .before .before .before .before .before .before .before) .octets .many) (now (c .before .before .before .before .before .before .before .before .before .before .before .args .out)) (c .before .before .before .before .write-tlvs .result) (c .before .before .before .before .before .before .before .before .front-writable .result) (c .before .before .before .before .before .before .before .front-length .result) (c .before .before .before .before .before .before .table-of .result) (c .before .before .before .before .before .before .before .before .front-writable .ensures) (c .before .before .before .before .before .before .before .front-length .ensures) (c .before .before .before .before .before .before .table-of .ensures) (c .before .before .before .before .write-tlvs .ensures .0) _ (c .before .before .before .before .write-tlvs .ensures .1) _ (c .enum-told2 .given .1))
 
 put-front-requires : tie.Need-put-front-requires
-put-front-requires c κs = let w = front-was (c .before .before .before .before .before .before .before .before .before .before .before .before .args .message) (now (c .before .before .before .before .before .before .before .before .before .before .before .before .args .buffer)) (buffer-bytes (c .before .before .before .before .before .before .before .before .before .before .before)) (typed (c .before .before .before .before .before .before .before .before .before .before .before .before) .octets-long) (now (c .before .before .before .before .before .before .before .before .before .before .before .before .args .out)) (c .before .before .before .before .before .write-tlvs .result) (c .before .before .before .before .before .before .before .before .before .front-writable .result) (c .before .before .before .before .before .before .before .before .front-length .result) (c .before .before .before .before .before .before .before .table-of .result) (c .before .before .before .before .before .before .before .before .before .front-writable .ensures) (c .before .before .before .before .before .before .before .before .front-length .ensures) (c .before .before .before .before .before .before .before .table-of .ensures) (c .before .before .before .before .before .write-tlvs .ensures .0) _ (c .before .enum-told .given .1) in (w .0, omega (arith, w .1))
+put-front-requires c κs = let w = front-was (c .before .before .before .before .before .before .before .before .before .before .before .before .args .message) (now (c .before .before .before .before .before .before .before .before .before .before .before .before .args .buffer)) (buffer-bytes (c .before .before .before .before .before .before .before .before .before .before .before)) (typed (c .before .before .before .before .before .before .before .before .before .before .before .before) .octets .many) (now (c .before .before .before .before .before .before .before .before .before .before .before .before .args .out)) (c .before .before .before .before .before .write-tlvs .result) (c .before .before .before .before .before .before .before .before .before .front-writable .result) (c .before .before .before .before .before .before .before .before .front-length .result) (c .before .before .before .before .before .before .before .table-of .result) (c .before .before .before .before .before .before .before .before .before .front-writable .ensures) (c .before .before .before .before .before .before .before .before .front-length .ensures) (c .before .before .before .before .before .before .before .table-of .ensures) (c .before .before .before .before .before .write-tlvs .ensures .0) _ (c .before .enum-told .given .1) in (w .0, omega (arith, w .1))
 
 same-length-2 : tie.Need-same-length-2
 same-length-2 c = search needs
 
 returns-2 : tie.Need-returns-2
-returns-2 c = (answered-so (c .before .before .before .before .before .before .before .before .before .before .before .before .before .before .before .args .message) (now (c .before .before .before .before .before .before .before .before .before .before .before .before .before .before .before .args .buffer)) (buffer-bytes (c .before .before .before .before .before .before .before .before .before .before .before .before .before .before)) (typed (c .before .before .before .before .before .before .before .before .before .before .before .before .before .before .before) .octets-long) (now (c .before .before .before .before .before .before .before .before .before .before .before .before .before .before .before .args .out)) (c .before .before .before .before .before .before .before .before .write-tlvs .result) (c .before .before .before .before .before .before .before .before .before .before .before .before .front-writable .result) (c .before .before .before .before .before .before .before .before .before .before .before .front-length .result) (c .before .before .before .before .before .before .before .before .before .before .table-of .result) (c .before .before .before .before .before .before .before .before .before .before .before .before .front-writable .ensures) (c .before .before .before .before .before .before .before .before .before .before .before .front-length .ensures) (c .before .before .before .before .before .before .before .before .before .before .table-of .ensures) (c .before .before .before .before .before .before .before .before .write-tlvs .ensures .0), put-so (c .before .before .before .before .before .before .before .before .before .before .before .before .before .before .before .args .message) (now (c .before .before .before .before .before .before .before .before .before .before .before .before .before .before .before .args .buffer)) (buffer-bytes (c .before .before .before .before .before .before .before .before .before .before .before .before .before .before)) (typed (c .before .before .before .before .before .before .before .before .before .before .before .before .before .before .before) .octets-long) (now (c .before .before .before .before .before .before .before .before .before .before .before .before .before .before .before .args .out)) (c .before .before .before .before .before .before .before .before .write-tlvs .result) (c .before .before .before .before .before .before .before .before .before .before .before .before .front-writable .result) (c .before .before .before .before .before .before .before .before .before .before .before .front-length .result) (c .before .before .before .before .before .before .before .before .before .before .table-of .result) (c .before .before .before .before .before .before .before .before .before .before .before .before .front-writable .ensures) (c .before .before .before .before .before .before .before .before .before .before .before .front-length .ensures) (c .before .before .before .before .before .before .before .before .before .before .table-of .ensures) (c .before .before .before .before .before .before .before .before .write-tlvs .ensures .0) _ (c .before .before .before .before .enum-told .given .1) _ _ (c .before .before .before .before .before .before .before .before .write-tlvs .ensures .1) (c .before .before .put-front .ensures))
+returns-2 c = (answered-so (c .before .before .before .before .before .before .before .before .before .before .before .before .before .before .before .args .message) (now (c .before .before .before .before .before .before .before .before .before .before .before .before .before .before .before .args .buffer)) (buffer-bytes (c .before .before .before .before .before .before .before .before .before .before .before .before .before .before)) (typed (c .before .before .before .before .before .before .before .before .before .before .before .before .before .before .before) .octets .many) (now (c .before .before .before .before .before .before .before .before .before .before .before .before .before .before .before .args .out)) (c .before .before .before .before .before .before .before .before .write-tlvs .result) (c .before .before .before .before .before .before .before .before .before .before .before .before .front-writable .result) (c .before .before .before .before .before .before .before .before .before .before .before .front-length .result) (c .before .before .before .before .before .before .before .before .before .before .table-of .result) (c .before .before .before .before .before .before .before .before .before .before .before .before .front-writable .ensures) (c .before .before .before .before .before .before .before .before .before .before .before .front-length .ensures) (c .before .before .before .before .before .before .before .before .before .before .table-of .ensures) (c .before .before .before .before .before .before .before .before .write-tlvs .ensures .0), put-so (c .before .before .before .before .before .before .before .before .before .before .before .before .before .before .before .args .message) (now (c .before .before .before .before .before .before .before .before .before .before .before .before .before .before .before .args .buffer)) (buffer-bytes (c .before .before .before .before .before .before .before .before .before .before .before .before .before .before)) (typed (c .before .before .before .before .before .before .before .before .before .before .before .before .before .before .before) .octets .many) (now (c .before .before .before .before .before .before .before .before .before .before .before .before .before .before .before .args .out)) (c .before .before .before .before .before .before .before .before .write-tlvs .result) (c .before .before .before .before .before .before .before .before .before .before .before .before .front-writable .result) (c .before .before .before .before .before .before .before .before .before .before .before .front-length .result) (c .before .before .before .before .before .before .before .before .before .before .table-of .result) (c .before .before .before .before .before .before .before .before .before .before .before .before .front-writable .ensures) (c .before .before .before .before .before .before .before .before .before .before .before .front-length .ensures) (c .before .before .before .before .before .before .before .before .before .before .table-of .ensures) (c .before .before .before .before .before .before .before .before .write-tlvs .ensures .0) _ (c .before .before .before .before .enum-told .given .1) _ _ (c .before .before .before .before .before .before .before .before .write-tlvs .ensures .1) (c .before .before .put-front .ensures))
 
 pub write-peer-up-notification-spec : {M : Type 1} → statement M
 write-peer-up-notification-spec =
