@@ -2,8 +2,8 @@ use borrow.Author.Needs.{needs}
 use mathlib.Core.Path.{_≡_}
 use Prim.Native.Nat.{_-_, _≤_}
 use lib.ListN.{length}
-use Rattle.replay.proofs.put_entries.Statement.{statement}
-use Rattle.replay.proofs.put_entries.Tie as tie
+use Rattle.replay_command.proofs.put_entries.Statement.{statement}
+use Rattle.replay_command.proofs.put_entries.Tie as tie
 
 abbrev Inv-loop : tie.InvT-loop
 Inv-loop out₀ at count kind arguments body next₀ i₀ out next i = (i ≤ count) × (length out ≡ length out₀)
@@ -29,8 +29,8 @@ loop-less c = search needs
 loop-again : tie.Need-loop-again Inv-loop μ-loop
 loop-again c = search needs
 
-table-end-requires : tie.Need-table-end-requires Inv-loop μ-loop
-table-end-requires c κs = search needs
+bare-requires : tie.Need-bare-requires Inv-loop μ-loop
+bare-requires c κs = search needs
 
 put-requires-2 : tie.Need-put-requires-2 Inv-loop μ-loop
 put-requires-2 c κs = search needs
@@ -53,7 +53,7 @@ put-entries-spec =
     add-i
     loop-less
     loop-again
-    table-end-requires
+    bare-requires
     put-requires-2
     same-length
     returns)

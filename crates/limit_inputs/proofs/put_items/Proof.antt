@@ -2,8 +2,8 @@ use borrow.Author.Needs.{needs}
 use mathlib.Core.Path.{_≡_}
 use Prim.Native.Nat.{_-_, _≤_}
 use lib.ListN.{length}
-use Rattle.limits.proofs.put_items.Statement.{statement}
-use Rattle.limits.proofs.put_items.Tie as tie
+use Rattle.limit_inputs.proofs.put_items.Statement.{statement}
+use Rattle.limit_inputs.proofs.put_items.Tie as tie
 
 abbrev Inv-loop : tie.InvT-loop
 Inv-loop bytes₀ at size count next₀ i₀ bytes next i = (i ≤ count) × (length bytes ≡ length bytes₀)

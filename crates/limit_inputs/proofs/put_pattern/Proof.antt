@@ -2,8 +2,8 @@ use borrow.Author.Needs.{needs}
 use mathlib.Core.Path.{_≡_}
 use Prim.Native.Nat.{_-_, _≤_}
 use lib.ListN.{length}
-use Rattle.limits.proofs.put_pattern.Statement.{statement}
-use Rattle.limits.proofs.put_pattern.Tie as tie
+use Rattle.limit_inputs.proofs.put_pattern.Statement.{statement}
+use Rattle.limit_inputs.proofs.put_pattern.Tie as tie
 
 abbrev Inv-loop : tie.InvT-loop
 Inv-loop bytes₀ i₀ bytes i = (i ≤ length bytes₀) × (length bytes ≡ length bytes₀)
