@@ -142,9 +142,9 @@ fn put_header(header: BmpCommonHeader, out: &mut [u8])
     ensures { λ _. ⌜ now (out .exit) ≡ sets (now (out .entry)) 0 (bytesOf header) ⌝ }
 {
     let msg_type = header.msg_type;
-    writing::put_u8(out, 0, header.version);
-    writing::put_u32(out, 1, header.msg_len);
-    writing::put_u8(out, 5, kind_of(msg_type));
+    put_numbers::put_u8(out, 0, header.version);
+    put_numbers::put_u32(out, 1, header.msg_len);
+    put_numbers::put_u8(out, 5, kind_of(msg_type));
 }
 
 // The number that stands for a type on the wire.

@@ -36,7 +36,7 @@ impl Cursor {
         if wire::left(s, at) < 1 {
             return ReadU8::Cut(wire::cut_at(at));
         }
-        ReadU8::Good(wire::u8_at(s, at), Cursor { at: at + 1 })
+        ReadU8::Good(numbers::u8_at(s, at), Cursor { at: at + 1 })
     }
 
     pub fn read_u16(self, s: &[u8]) -> ReadU16
@@ -46,7 +46,7 @@ impl Cursor {
         if wire::left(s, at) < 2 {
             return ReadU16::Cut(wire::cut_at(at));
         }
-        ReadU16::Good(wire::u16_at(s, at), Cursor { at: at + 2 })
+        ReadU16::Good(numbers::u16_at(s, at), Cursor { at: at + 2 })
     }
 
     pub fn read_u32(self, s: &[u8]) -> ReadU32
@@ -56,7 +56,7 @@ impl Cursor {
         if wire::left(s, at) < 4 {
             return ReadU32::Cut(wire::cut_at(at));
         }
-        ReadU32::Good(wire::u32_at(s, at), Cursor { at: at + 4 })
+        ReadU32::Good(numbers::u32_at(s, at), Cursor { at: at + 4 })
     }
 
     pub fn read_u64(self, s: &[u8]) -> ReadU64
@@ -66,6 +66,6 @@ impl Cursor {
         if wire::left(s, at) < 8 {
             return ReadU64::Cut(wire::cut_at(at));
         }
-        ReadU64::Good(wire::u64_at(s, at), Cursor { at: at + 8 })
+        ReadU64::Good(numbers::u64_at(s, at), Cursor { at: at + 8 })
     }
 }

@@ -124,7 +124,7 @@ fn put_hex_number(out: &mut [u8], at: usize, n: u64, from: usize) -> usize
     requires { ⌜ from ≤ 8 ⌝ }
 {
     let mut bytes = [0u8; 8];
-    writing::put_u64(&mut bytes, 0, n);
+    put_numbers::put_u64(&mut bytes, 0, n);
     put_hex(out, at, &bytes[from..8])
 }
 

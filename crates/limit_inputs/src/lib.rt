@@ -43,8 +43,8 @@ pub fn put_whole(kind: Kind, bytes: &mut [u8]) {
 fn put_record(kind: Kind, bytes: &mut [u8]) {
     match kind {
         Kind::Common => put_common(bytes, 6),
-        Kind::PerPeer => writing::put_u16(bytes, 0, 0x0080),
-        Kind::PeerDown => writing::put_u8(bytes, 0, 1),
+        Kind::PerPeer => put_numbers::put_u16(bytes, 0, 0x0080),
+        Kind::PeerDown => put_numbers::put_u8(bytes, 0, 1),
         Kind::Monitoring => {}
         Kind::OpenBmp => put_openbmp(bytes),
         _ => put_whole_table(kind, bytes),
@@ -65,25 +65,25 @@ pub fn whole_length(kind: Kind) -> usize
 
 // An Initiation message by its type, which has no say here.
 fn put_common(bytes: &mut [u8], length: u32) {
-    writing::put_u8(bytes, 0, 3);
-    writing::put_u32(bytes, 1, length);
-    writing::put_u8(bytes, 5, 4);
+    put_numbers::put_u8(bytes, 0, 3);
+    put_numbers::put_u32(bytes, 1, length);
+    put_numbers::put_u8(bytes, 5, 4);
 }
 
 // Both strings are as long as their length fields can say, and the address is one of IPv6.
 fn put_openbmp(bytes: &mut [u8]) {
     writing::put_bytes(bytes, 0, b"OBMP");
-    writing::put_u16(bytes, 4, 0x0107);
-    writing::put_u16(bytes, 12, 0xC00C);
+    put_numbers::put_u16(bytes, 4, 0x0107);
+    put_numbers::put_u16(bytes, 12, 0xC00C);
     put_zeros(bytes, 22);
     put_openbmp_strings(bytes);
 }
 
 fn put_openbmp_strings(bytes: &mut [u8]) {
-    writing::put_u16(bytes, 38, 65_535);
+    put_numbers::put_u16(bytes, 38, 65_535);
     put_zeros(bytes, 65_575);
-    writing::put_u16(bytes, 65_607, 65_535);
-    writing::put_u32(bytes, 131_144, 1);
+    put_numbers::put_u16(bytes, 65_607, 65_535);
+    put_numbers::put_u32(bytes, 131_144, 1);
 }
 
 fn put_zeros(bytes: &mut [u8], at: usize) {
@@ -109,7 +109,7 @@ fn put_front(kind: Kind, count: u32, bytes: &mut [u8]) -> usize
 {
     match kind {
         Kind::Stats => {
-            writing::put_u32(bytes, 0, count);
+            put_numbers::put_u32(bytes, 0, count);
             4
         }
         Kind::PeerUp => put_opens(bytes, 19, 19),
@@ -122,8 +122,8 @@ fn put_front(kind: Kind, count: u32, bytes: &mut [u8]) -> usize
 fn put_opens(bytes: &mut [u8], sent: u32, received: u32) -> usize
     ensures { λ r. ⌜ r ≤ 58 ⌝ }
 {
-    writing::put_u16(bytes, 36, (sent % 65_536) as u16);
-    writing::put_u16(bytes, 55, (received % 65_536) as u16);
+    put_numbers::put_u16(bytes, 36, (sent % 65_536) as u16);
+    put_numbers::put_u16(bytes, 55, (received % 65_536) as u16);
     58
 }
 
@@ -132,7 +132,7 @@ fn put_items(bytes: &mut [u8], at: usize, size: u32, count: u32) -> usize {
     let mut next = at;
     let mut i: u32 = 0;
     while i < count {
-        writing::put_u32(bytes, next, size);
+        put_numbers::put_u32(bytes, next, size);
         next = std::num::wrapping_add_usize(next, 4 + (size as usize));
         i += 1;
     }

@@ -146,6 +146,6 @@ fn put_field(out: &mut [u8], at: usize, n: usize, after: u8) -> usize
 {
     decimal::put_decimal(out, at, n);
     let next = at + decimal::digit_count(n);
-    writing::put_u8(out, next, after);
+    put_numbers::put_u8(out, next, after);
     next + 1
 }

@@ -1,5 +1,3 @@
 pub mod Equality
-pub mod Times
 pub mod Warnings
 pub mod Promises
-pub mod Specimens

@@ -2,17 +2,12 @@
 use Prim.Native.Nat.{ℕ}
 use mathlib.Core.Bool.{Bool, true, and-eq-true-iff}
 use mathlib.Core.Logic.{_↔_}
-use mathlib.Core.Path.{_≡_, ap}
-use borrow.Author.Tests.{eq-eqb}
-use lib.Dec.{T}
-use lib.Ieee.{Float, binary64, fits, toBits}
+use mathlib.Core.Path.{_≡_}
 use Rattle.wire.proofs.Determined.{determined}
 use Rattle.models.specs.Address.{sameAfi, sameOctets, sameAddress, unspecified}
-use Rattle.models.specs.Time.{timeOf, isTimestamp}
 use Rattle.models.specs.Warnings.{countOnes}
 use Rattle.models.specs.declared.IpAddr.{IpAddr}
 use Rattle.models.proofs.Equality.{afi-equal, afi-self, octets-equal, octets-self}
-use Rattle.models.proofs.Times.{same-bits}
 
 -- `equals` says true of two addresses exactly when they are one, whatever number of octets they have.
 pub equals-is-equality : (a b : IpAddr) → (sameAddress a b ≡ true) ↔ (a ≡ b)
@@ -25,26 +20,12 @@ equals-is-equality a b = (equal, same) where
   same : a ≡ b → sameAddress a b ≡ true
   same e = rw (← e, afi-self, octets-self)
 
--- `is_timestamp` says true of an f64 exactly when it is the time of the words, in its sign too.
-pub is-timestamp-is-equality : (t : Float) (seconds microseconds : ℕ) → T (fits binary64 t)
-    → (isTimestamp t seconds microseconds ≡ true) ↔ (t ≡ timeOf seconds microseconds)
-is-timestamp-is-equality t seconds microseconds holds =
-    (same-bits t seconds microseconds holds, λ e. eq-eqb (toBits binary64 t) (toBits binary64 (timeOf seconds microseconds)) (ap (toBits binary64) e))
-
 -- Of each public function, any two answers that its contract allows are equal.
 pub equals-determined : (a b : IpAddr) (r q : Bool) → r ≡ sameAddress a b → q ≡ sameAddress a b → r ≡ q
 equals-determined a b r q = determined
 
 pub unspecified-determined : (r q : IpAddr) → r ≡ unspecified → q ≡ unspecified → r ≡ q
 unspecified-determined r q = determined
-
-pub timestamp-determined : (seconds microseconds : ℕ) (r q : Float)
-    → r ≡ timeOf seconds microseconds → q ≡ timeOf seconds microseconds → r ≡ q
-timestamp-determined seconds microseconds r q = determined
-
-pub is-timestamp-determined : (t : Float) (seconds microseconds : ℕ) (r q : Bool)
-    → r ≡ isTimestamp t seconds microseconds → q ≡ isTimestamp t seconds microseconds → r ≡ q
-is-timestamp-determined t seconds microseconds r q = determined
 
 pub warning-count-determined : (word a b : ℕ) → a ≡ countOnes 32 word → b ≡ countOnes 32 word → a ≡ b
 warning-count-determined word a b = determined

@@ -1,7 +1,6 @@
 // The values that BMP messages are made of, under the names that bgpkit-parser gives them.
 ghost use mathlib.Core.Path.{_≡_};
 ghost use Rattle.models.specs.Address.{sameAddress, sameAfi, sameOctets, unspecified};
-ghost use Rattle.models.specs.Time.{isTimestamp, timeOf};
 ghost use Rattle.models.specs.Warnings.{countOnes};
 
 // An AS number, a BGP identifier and a distinguisher have a type each, so that no call takes one for another.
@@ -77,24 +76,6 @@ fn same_octets(a: [u8; 16], b: [u8; 16]) -> bool
         i += 1;
     }
     true
-}
-
-// The Rust's expression, operation for operation: another order would round to other bits.
-pub fn timestamp(seconds: u32, microseconds: u32) -> f64
-    ensures { λ r. ⌜ r ≡ timeOf seconds microseconds ⌝ }
-{
-    seconds as f64 + microseconds as f64 / 1_000_000.0
-}
-
-// Whether a float has the very bits that the words give, as a writer asks; `==` takes -0.0 for 0.0, and to_bits has none for a NaN.
-pub fn is_timestamp(t: f64, seconds: u32, microseconds: u32) -> bool
-    ensures { λ r. ⌜ r ≡ isTimestamp t seconds microseconds ⌝ }
-{
-    let given = timestamp(seconds, microseconds);
-    if t == given {
-        return f64::to_bits(t) == f64::to_bits(given);
-    }
-    false
 }
 
 // How many warnings a word holds (docs/RULES.md, "Warnings").

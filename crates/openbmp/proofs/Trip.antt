@@ -12,11 +12,11 @@ use Rattle.wire.specs.Bytes.{Bytes, none}
 use Rattle.wire.specs.View.{view, viewed}
 use Rattle.wire.proofs.Bytes.{bytes-be, bytes-append}
 use Rattle.wire.proofs.Views.{viewed-inside, bytes-viewed, octets-zeros}
-use Rattle.models.specs.Time.{timeOf}
+use Rattle.times.specs.Time.{timeOf}
 use Rattle.models.specs.declared.Afi.{Afi}
 use Rattle.models.specs.declared.Afi.the-variants.{Ipv4, Ipv6}
 use Rattle.models.specs.declared.IpAddr.{IpAddr}
-use Rattle.models.proofs.Promises.{is-timestamp-is-equality}
+use Rattle.times.proofs.Promises.{is-timestamp-is-equality}
 use Rattle.openbmp.specs.Grammar.{RouterIp, ipv4, ipv6, Reading, flagsOf, routerIpBytes, join, RouterIpFits, bitOf, Good}
 use Rattle.openbmp.specs.Shown.{shownIp, shownHeader}
 use Rattle.openbmp.specs.Read.{routerIpOf}

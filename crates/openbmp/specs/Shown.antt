@@ -8,7 +8,7 @@ use Rattle.wire.specs.View.{view}
 use Rattle.wire.specs.declared.Refusal.{Refusal}
 use Rattle.wire.specs.Exactly.{Grammar, noTable}
 use Rattle.models.specs.Address.{unspecified}
-use Rattle.models.specs.Time.{timeOf}
+use Rattle.times.specs.Time.{timeOf}
 use Rattle.models.specs.declared.Afi.the-variants.{Ipv4, Ipv6}
 use Rattle.models.specs.declared.IpAddr.{IpAddr}
 use Rattle.openbmp.specs.Grammar.{RouterIp, ipv4, ipv6, Reading, join, Good}

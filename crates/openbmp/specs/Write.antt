@@ -10,7 +10,7 @@ use Rattle.wire.specs.Bytes.{be, Octets}
 use Rattle.wire.specs.View.{inside, viewed}
 use Rattle.wire.specs.declared.View.{View}
 use Rattle.models.specs.Address.{sameAddress}
-use Rattle.models.specs.Time.{isTimestamp}
+use Rattle.times.specs.Time.{isTimestamp}
 use Rattle.models.specs.declared.Afi.{Afi}
 use Rattle.models.specs.declared.Afi.the-variants.{Ipv4, Ipv6}
 use Rattle.models.specs.declared.IpAddr.{IpAddr}

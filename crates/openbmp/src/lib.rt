@@ -61,7 +61,7 @@ pub fn parse_openbmp_header(s: &[u8]) -> OpenBmpAnswer
     if s.len() < 4 {
         return cut(s.len(), 0, 0);
     }
-    after_magic(s, wire::u32_at(s, 0))
+    after_magic(s, numbers::u32_at(s, 0))
 }
 
 fn after_magic(s: &[u8], magic: u32) -> OpenBmpAnswer
@@ -73,7 +73,7 @@ fn after_magic(s: &[u8], magic: u32) -> OpenBmpAnswer
     if s.len() < 6 {
         return cut(s.len(), 0, 0);
     }
-    after_versions(s, wire::u8_at(s, 4), wire::u8_at(s, 5))
+    after_versions(s, numbers::u8_at(s, 4), numbers::u8_at(s, 5))
 }
 
 // The versions are one pair, and its place is that of the first.
@@ -89,7 +89,7 @@ fn after_versions(s: &[u8], major: u8, minor: u8) -> OpenBmpAnswer
     if s.len() < 13 {
         return cut(s.len(), 0, 0);
     }
-    after_flags(s, wire::u8_at(s, 12))
+    after_flags(s, numbers::u8_at(s, 12))
 }
 
 fn after_flags(s: &[u8], flags: u8) -> OpenBmpAnswer
@@ -101,7 +101,7 @@ fn after_flags(s: &[u8], flags: u8) -> OpenBmpAnswer
     if s.len() < 14 {
         return cut(s.len(), 0, 0);
     }
-    after_type(s, wire::u8_at(s, 13))
+    after_type(s, numbers::u8_at(s, 13))
 }
 
 fn after_type(s: &[u8], object_type: u8) -> OpenBmpAnswer
@@ -113,7 +113,7 @@ fn after_type(s: &[u8], object_type: u8) -> OpenBmpAnswer
     if s.len() < 40 {
         return cut(s.len(), 0, 0);
     }
-    after_admin_length(s, wire::u16_at(s, 38))
+    after_admin_length(s, numbers::u16_at(s, 38))
 }
 
 fn after_admin_length(s: &[u8], admin: u16) -> OpenBmpAnswer
@@ -123,7 +123,7 @@ fn after_admin_length(s: &[u8], admin: u16) -> OpenBmpAnswer
     if s.len() < 74 + a {
         return cut(s.len(), a, 0);
     }
-    after_group_length(s, admin, wire::u16_at(s, 72 + a))
+    after_group_length(s, admin, numbers::u16_at(s, 72 + a))
 }
 
 fn after_group_length(s: &[u8], admin: u16, group: u16) -> OpenBmpAnswer
@@ -134,7 +134,7 @@ fn after_group_length(s: &[u8], admin: u16, group: u16) -> OpenBmpAnswer
     if s.len() < 78 + a + g {
         return cut(s.len(), a, g);
     }
-    after_row_count(s, admin, group, wire::u32_at(s, 74 + a + g))
+    after_row_count(s, admin, group, numbers::u32_at(s, 74 + a + g))
 }
 
 fn after_row_count(s: &[u8], admin: u16, group: u16, rows: u32) -> OpenBmpAnswer
@@ -151,15 +151,15 @@ fn read_header(s: &[u8], admin: usize, group: usize) -> OpenBmpAnswer
     requires { ⌜ 78 + admin + group ≤ length (now s) ⌝ }
     ensures { λ r. ⌜ r ≡ shown (partsOf (now (s .entry)) admin group) ⌝ }
 {
-    let seconds = wire::u32_at(s, 14);
-    let microseconds = wire::u32_at(s, 18);
+    let seconds = numbers::u32_at(s, 14);
+    let microseconds = numbers::u32_at(s, 18);
     let header = OpenBmpHeader {
-        major_version: wire::u8_at(s, 4),
-        minor_version: wire::u8_at(s, 5),
-        header_len: wire::u16_at(s, 6),
-        msg_len: wire::u32_at(s, 8),
-        object_type: wire::u8_at(s, 13),
-        timestamp: models::timestamp(seconds, microseconds),
+        major_version: numbers::u8_at(s, 4),
+        minor_version: numbers::u8_at(s, 5),
+        header_len: numbers::u16_at(s, 6),
+        msg_len: numbers::u32_at(s, 8),
+        object_type: numbers::u8_at(s, 13),
+        timestamp: times::timestamp(seconds, microseconds),
         seconds: seconds,
         microseconds: microseconds,
         admin_id: View {
@@ -167,7 +167,7 @@ fn read_header(s: &[u8], admin: usize, group: usize) -> OpenBmpAnswer
             length: admin,
         },
         router_ip: shown_ip(
-            family(wire::u8_at(s, 12)),
+            family(numbers::u8_at(s, 12)),
             layout::sixteen_at(s, 56 + admin),
         ),
         router_group: View {
@@ -328,7 +328,7 @@ fn is_writable(header: OpenBmpHeader, room: usize) -> bool
     ) {
         return false;
     }
-    if !models::is_timestamp(header.timestamp, header.seconds, header.microseconds) {
+    if !times::is_timestamp(header.timestamp, header.seconds, header.microseconds) {
         return false;
     }
     if !ip_fits(router_ip) {
@@ -375,13 +375,13 @@ fn put_front(header_len: u16, msg_len: u32, flags: u8, out: &mut [u8])
     requires { ⌜ 14 ≤ length (now out) ⌝ }
     ensures { λ _. ⌜ now (out .exit) ≡ putAt (now (out .entry)) 0 (frontBytes «header_len» «msg_len» flags) ⌝ }
 {
-    writing::put_u32(out, 0, MAGIC_NUMBER);
-    writing::put_u8(out, 4, MAJOR_VERSION);
-    writing::put_u8(out, 5, MINOR_VERSION);
-    writing::put_u16(out, 6, header_len);
-    writing::put_u32(out, 8, msg_len);
-    writing::put_u8(out, 12, flags);
-    writing::put_u8(out, 13, RAW_BMP);
+    put_numbers::put_u32(out, 0, MAGIC_NUMBER);
+    put_numbers::put_u8(out, 4, MAJOR_VERSION);
+    put_numbers::put_u8(out, 5, MINOR_VERSION);
+    put_numbers::put_u16(out, 6, header_len);
+    put_numbers::put_u32(out, 8, msg_len);
+    put_numbers::put_u8(out, 12, flags);
+    put_numbers::put_u8(out, 13, RAW_BMP);
 }
 
 fn flags_of(afi: Afi) -> u8
@@ -398,8 +398,8 @@ fn put_time(seconds: u32, microseconds: u32, out: &mut [u8])
     ensures { λ _. ⌜ now (out .exit) ≡ putAt (now (out .entry)) 14 (timeBytes seconds microseconds) ⌝ }
 {
     let no_hash = [0u8; 16];
-    writing::put_u32(out, 14, seconds);
-    writing::put_u32(out, 18, microseconds);
+    put_numbers::put_u32(out, 14, seconds);
+    put_numbers::put_u32(out, 18, microseconds);
     writing::put_bytes(out, 22, &no_hash);
 }
 
@@ -416,7 +416,7 @@ fn put_rest(octets: [u8; 16], admin: &[u8], group: &[u8], out: &mut [u8])
     writing::put_bytes(out, 40 + a, &no_hash);
     writing::put_bytes(out, 56 + a, &octets);
     put_counted(group, 72 + a, out);
-    writing::put_u32(out, 74 + a + g, 1);
+    put_numbers::put_u32(out, 74 + a + g, 1);
 }
 
 fn put_counted(bytes: &[u8], at: usize, out: &mut [u8])
@@ -424,6 +424,6 @@ fn put_counted(bytes: &[u8], at: usize, out: &mut [u8])
     requires { ⌜ at + (2 + length (now bytes)) ≤ length (now out) ⌝ }
     ensures { λ _. ⌜ now (out .exit) ≡ putAt (now (out .entry)) at (counted (now (bytes .entry))) ⌝ }
 {
-    writing::put_u16(out, at, bytes.len() as u16);
+    put_numbers::put_u16(out, at, bytes.len() as u16);
     writing::put_bytes(out, at + 2, bytes);
 }

@@ -139,7 +139,7 @@ pub fn write_peer_down_notification(
     let WriteAnswer::Written(_) = answer else {
         return answer;
     };
-    writing::put_u8(out, 0, kind);
+    put_numbers::put_u8(out, 0, kind);
     writing::put_bytes(out, 1, part);
     answer
 }

@@ -124,7 +124,7 @@ fn open_at(s: &[u8], at: usize) -> Open
     if left < 19 {
         return Open::Broken(wire::cut_at(at));
     }
-    let size = wire::u16_at(s, at + 16);
+    let size = numbers::u16_at(s, at + 16);
     if size < 19 {
         return Open::Broken(refusal_at(wire::BGP_LENGTH, at + 16));
     }
@@ -171,8 +171,8 @@ fn front_of(s: &[u8], afi: Afi, sent_open: View, received_open: View) -> Front
     let octets = layout::sixteen_at(s, 0);
     Front {
         local_addr: local_address(afi, octets),
-        local_port: wire::u16_at(s, 16),
-        remote_port: wire::u16_at(s, 18),
+        local_port: numbers::u16_at(s, 16),
+        remote_port: numbers::u16_at(s, 18),
         sent_open: sent_open,
         received_open: received_open,
     }
@@ -457,7 +457,7 @@ fn open_writable(view: View, buffer: &[u8]) -> bool
         return false;
     }
     let part = view.part(buffer);
-    (wire::u16_at(part, 16) as usize) == view.length
+    (numbers::u16_at(part, 16) as usize) == view.length
 }
 
 // The lengths of OPENs that cannot be written may be any, so they are not added up.
@@ -514,8 +514,8 @@ fn put_front(message: PeerUpNotification, buffer: &[u8], out: &mut [u8])
     let sent_open = message.sent_open;
     let received_open = message.received_open;
     writing::put_bytes(out, 0, &octets);
-    writing::put_u16(out, 16, message.local_port);
-    writing::put_u16(out, 18, message.remote_port);
+    put_numbers::put_u16(out, 16, message.local_port);
+    put_numbers::put_u16(out, 18, message.remote_port);
     let sent = sent_open.part(buffer);
     writing::put_bytes(out, 20, sent);
     let received = received_open.part(buffer);

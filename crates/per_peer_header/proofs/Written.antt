@@ -14,7 +14,8 @@ use Rattle.wire.proofs.Views.{octets-zeros}
 use Rattle.writing.specs.Write.{putAt}
 use Rattle.writing.proofs.Sets.{put-then, put-fits, length-put}
 use Rattle.models.specs.declared.IpAddr.{IpAddr}
-use Rattle.models.proofs.Promises.{equals-is-equality, is-timestamp-is-equality}
+use Rattle.models.proofs.Promises.{equals-is-equality}
+use Rattle.times.proofs.Promises.{is-timestamp-is-equality}
 use Rattle.peer_type.specs.Peer.{kindOf}
 use Rattle.peer_type.proofs.Told.{named}
 use Rattle.per_peer_header.specs.Grammar.{AddressField, ipv4, ipv6, unused, AsField, as16, as32, addressBytes, asBytes, AddressFits, AsFits, Layout, ipv4-as16, ipv4-as32, ipv6-as16, ipv6-as32, loc-rib, Good}

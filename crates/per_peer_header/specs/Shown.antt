@@ -7,7 +7,7 @@ use Rattle.wire.specs.Refusal.{noRefusal}
 use Rattle.wire.specs.declared.Refusal.{Refusal}
 use Rattle.wire.specs.Exactly.{Grammar, noTable}
 use Rattle.models.specs.Address.{unspecified}
-use Rattle.models.specs.Time.{timeOf}
+use Rattle.times.specs.Time.{timeOf}
 use Rattle.models.specs.declared.Afi.the-variants.{Ipv4, Ipv6}
 use Rattle.models.specs.declared.IpAddr.{IpAddr}
 use Rattle.per_peer_header.specs.Grammar.{AddressField, ipv4, ipv6, unused, AsField, as16, as32, Reading, join, Good}

@@ -7,7 +7,7 @@ use lib.Ieee.{binary64, fits}
 use lib.ListN.{replicate}
 use Rattle.wire.specs.Bytes.{Octets}
 use Rattle.models.specs.Address.{sameAddress}
-use Rattle.models.specs.Time.{isTimestamp}
+use Rattle.times.specs.Time.{isTimestamp}
 use Rattle.peer_type.specs.Peer.{kindOf}
 use Rattle.per_peer_header.specs.Grammar.{AddressField, ipv4, ipv6, unused, AsField, as16, as32, Reading, join}
 use Rattle.per_peer_header.specs.Shown.{shownAddress, shownAsn}

@@ -50,7 +50,7 @@ pub fn parse_per_peer_header(s: &[u8]) -> PerPeerHeaderAnswer
             place: 0,
         });
     }
-    if peer_type::LOCAL_RIB < wire::u8_at(s, 0) {
+    if peer_type::LOCAL_RIB < numbers::u8_at(s, 0) {
         return refused_with(Refusal {
             number: wire::UNKNOWN_KIND,
             place: 0,
@@ -97,21 +97,21 @@ fn read_header(s: &[u8]) -> PerPeerHeaderAnswer
     requires { ⌜ 42 ≤ length (now s) ⌝ }
     ensures { λ r. ⌜ r ≡ shown (partsOf (now (s .entry))) ⌝ }
 {
-    let kind = wire::u8_at(s, 0);
-    let flags = PerPeerFlags(wire::u8_at(s, 1));
-    let distinguisher = wire::u64_at(s, 2);
+    let kind = numbers::u8_at(s, 0);
+    let flags = PerPeerFlags(numbers::u8_at(s, 1));
+    let distinguisher = numbers::u64_at(s, 2);
     let address = layout::sixteen_at(s, 10);
-    let id = wire::u32_at(s, 30);
-    let seconds = wire::u32_at(s, 34);
-    let microseconds = wire::u32_at(s, 38);
+    let id = numbers::u32_at(s, 30);
+    let seconds = numbers::u32_at(s, 34);
+    let microseconds = numbers::u32_at(s, 38);
     let header = BmpPerPeerHeader {
         peer_type: type_of(kind),
         peer_flags: flags,
         peer_distinguisher: PeerDistinguisher(distinguisher),
         peer_ip: shown_address(kind, flags, address),
-        peer_asn: Asn(shown_asn(kind, flags, wire::u32_at(s, 26))),
+        peer_asn: Asn(shown_asn(kind, flags, numbers::u32_at(s, 26))),
         peer_bgp_id: BgpIdentifier(id),
-        timestamp: models::timestamp(seconds, microseconds),
+        timestamp: times::timestamp(seconds, microseconds),
         seconds: seconds,
         microseconds: microseconds,
     };
@@ -235,7 +235,7 @@ fn is_writable(header: BmpPerPeerHeader) -> bool
     if shown_asn(kind, flags, asn) != asn {
         return false;
     }
-    models::is_timestamp(header.timestamp, header.seconds, header.microseconds)
+    times::is_timestamp(header.timestamp, header.seconds, header.microseconds)
 }
 
 // In a writable header the octets that are skipped on reading are zero, so all sixteen are put as they are.
@@ -247,12 +247,12 @@ fn put_header(header: BmpPerPeerHeader, out: &mut [u8])
     let peer_type = header.peer_type;
     let peer_ip = header.peer_ip;
     let octets = peer_ip.octets;
-    writing::put_u8(out, 0, peer_type.number());
-    writing::put_u8(out, 1, header.peer_flags.0);
-    writing::put_u64(out, 2, header.peer_distinguisher.0);
+    put_numbers::put_u8(out, 0, peer_type.number());
+    put_numbers::put_u8(out, 1, header.peer_flags.0);
+    put_numbers::put_u64(out, 2, header.peer_distinguisher.0);
     writing::put_bytes(out, 10, &octets);
-    writing::put_u32(out, 26, header.peer_asn.0);
-    writing::put_u32(out, 30, header.peer_bgp_id.0);
-    writing::put_u32(out, 34, header.seconds);
-    writing::put_u32(out, 38, header.microseconds);
+    put_numbers::put_u32(out, 26, header.peer_asn.0);
+    put_numbers::put_u32(out, 30, header.peer_bgp_id.0);
+    put_numbers::put_u32(out, 34, header.seconds);
+    put_numbers::put_u32(out, 38, header.microseconds);
 }

@@ -124,7 +124,7 @@ fn family(afi: Afi) -> u64 {
 
 // Eight of an address's sixteen bytes, as a number.
 fn half(octets: [u8; 16], at: usize) -> u64 {
-    wire::u64_at(&octets, at)
+    numbers::u64_at(&octets, at)
 }
 
 // A NaN has no bits that can be relied on; no f64 of two words is one.

@@ -228,7 +228,7 @@ fn put_report(report: StatsReport, buffer: &[u8], out: &mut [u8])
     ensures { λ _. ⌜ now (out .exit) ≡ sets (now (out .entry)) 0 (bytesOf report (now (buffer .entry))) ⌝ }
 {
     let count = report.count;
-    writing::put_u32(out, 0, report.stats_count);
+    put_numbers::put_u32(out, 0, report.stats_count);
     let mut at: usize = 4;
     let mut i: usize = 0;
     while i < count {
@@ -245,7 +245,7 @@ fn put_counter(out: &mut [u8], at: usize, counter: StatCounter, buffer: &[u8])
 {
     let stat_type = counter.stat_type;
     let stat_data = counter.stat_data;
-    writing::put_u16(out, at, stats_type::kind_of(stat_type));
-    writing::put_u16(out, at + 2, counter.stat_len);
+    put_numbers::put_u16(out, at, stats_type::kind_of(stat_type));
+    put_numbers::put_u16(out, at + 2, counter.stat_len);
     stats_data::put_data(out, at + 4, stat_data, buffer);
 }

@@ -5,7 +5,7 @@ use mathlib.Core.List.{List, []}
 use Prim.Native.Nat.{ℕ, _-_, _^_, _<_}
 use borrow.Author.Tests.{leb-true, leb-false}
 use lib.ListN.{length, take, drop}
-use Rattle.wire.specs.Bytes.{be, value, Bytes, numberAt}
+use Rattle.wire.specs.Bytes.{be, value, Bytes}
 use Rattle.wire.specs.Refusal.{cutAt}
 use Rattle.wire.specs.View.{inside, viewed}
 use Rattle.wire.specs.declared.Refusal.{Refusal}
@@ -22,10 +22,6 @@ cut-at-determined place r q = determined
 -- Two answers of left for the same bytes and place are equal.
 pub left-determined : (s : List ℕ) (at r q : ℕ) → r ≡ length s - at → q ≡ length s - at → r ≡ q
 left-determined s at r q = determined
-
--- Two answers of u8_at, u16_at, u32_at or u64_at (w is 1, 2, 4 or 8) for the same bytes and place are equal.
-pub number-determined : (w : ℕ) (s : List ℕ) (at r q : ℕ) → r ≡ numberAt w s at → q ≡ numberAt w s at → r ≡ q
-number-determined w s at r q = determined
 
 -- Two answers of View::is_inside for the same view and length are equal.
 pub is-inside-determined : (v : View) (room : ℕ) (r q : Bool) → r ≡ inside room v → q ≡ inside room v → r ≡ q

@@ -2,7 +2,6 @@
 ghost use mathlib.Core.Path.{_≡_};
 ghost use Prim.Native.Nat.{_-_};
 ghost use lib.ListN.{length};
-ghost use Rattle.wire.specs.Bytes.{numberAt};
 ghost use Rattle.wire.specs.Refusal.{cutAt};
 ghost use Rattle.wire.specs.View.{inside, viewed};
 
@@ -63,43 +62,6 @@ pub fn left(s: &[u8], at: usize) -> usize
     ensures { λ r. ⌜ r ≡ length (now (s .entry)) - at ⌝ }
 {
     if at <= s.len() { s.len() - at } else { 0 }
-}
-
-// The big-endian number at a place, 0 where not all of its bytes are there.
-pub fn u8_at(s: &[u8], at: usize) -> u8
-    ensures { λ r. ⌜ r ≡ numberAt 1 (now (s .entry)) at ⌝ }
-{
-    if left(s, at) < 1 {
-        return 0;
-    }
-    s[at]
-}
-
-pub fn u16_at(s: &[u8], at: usize) -> u16
-    ensures { λ r. ⌜ r ≡ numberAt 2 (now (s .entry)) at ⌝ }
-{
-    if left(s, at) < 2 {
-        return 0;
-    }
-    (u8_at(s, at) as u16) * 256 + (u8_at(s, at + 1) as u16)
-}
-
-pub fn u32_at(s: &[u8], at: usize) -> u32
-    ensures { λ r. ⌜ r ≡ numberAt 4 (now (s .entry)) at ⌝ }
-{
-    if left(s, at) < 4 {
-        return 0;
-    }
-    (u16_at(s, at) as u32) * 65_536 + (u16_at(s, at + 2) as u32)
-}
-
-pub fn u64_at(s: &[u8], at: usize) -> u64
-    ensures { λ r. ⌜ r ≡ numberAt 8 (now (s .entry)) at ⌝ }
-{
-    if left(s, at) < 8 {
-        return 0;
-    }
-    (u32_at(s, at) as u64) * 4_294_967_296 + (u32_at(s, at + 4) as u64)
 }
 
 impl View {

@@ -19,7 +19,7 @@ use Rattle.writing.proofs.Sets.{put-fits, put-nothing}
 use Rattle.writing.proofs.Answers.{writes}
 
 -- ---- any two outputs, and any two answers, that a contract allows are equal
--- Two outputs that put_bytes may leave are equal, and so with put_u8, put_u16, put_u32, put_u64 (b is be w n with w 1, 2, 4, 8).
+-- Two outputs that put_bytes may leave are equal.
 pub put-determined : (out : List ℕ) (at : ℕ) (b out′ out″ : List ℕ) → out′ ≡ putAt out at b → out″ ≡ putAt out at b → out′ ≡ out″
 put-determined out at b out′ out″ = determined
 

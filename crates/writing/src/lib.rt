@@ -2,7 +2,6 @@
 use wire::Refusal;
 use wire::View;
 ghost use mathlib.Core.Path.{_≡_};
-ghost use Rattle.wire.specs.Bytes.{be};
 ghost use Rattle.wire.specs.Refusal.{refusal};
 ghost use Rattle.writing.specs.Write.{putAt, tlvFits, writeAnswer};
 ghost use Rattle.writing.specs.declared.WriteAnswer.the-variants.{Refused};
@@ -25,41 +24,6 @@ pub fn put_bytes(out: &mut [u8], at: usize, bytes: &[u8])
         out[at + i] = bytes[i];
         i += 1;
     }
-}
-
-// Puts the bytes of a big-endian number at a place; where they do not fit, nothing changes.
-pub fn put_u8(out: &mut [u8], at: usize, n: u8)
-    ensures { λ _. ⌜ now (out .exit) ≡ putAt (now (out .entry)) at (be 1 n) ⌝ }
-{
-    let bytes = [n];
-    put_bytes(out, at, &bytes);
-}
-
-pub fn put_u16(out: &mut [u8], at: usize, n: u16)
-    ensures { λ _. ⌜ now (out .exit) ≡ putAt (now (out .entry)) at (be 2 n) ⌝ }
-{
-    let bytes = [(n / 256) as u8, (n % 256) as u8];
-    put_bytes(out, at, &bytes);
-}
-
-pub fn put_u32(out: &mut [u8], at: usize, n: u32)
-    ensures { λ _. ⌜ now (out .exit) ≡ putAt (now (out .entry)) at (be 4 n) ⌝ }
-{
-    if wire::left(out, at) < 4 {
-        return;
-    }
-    put_u16(out, at, (n / 65_536) as u16);
-    put_u16(out, at + 2, (n % 65_536) as u16);
-}
-
-pub fn put_u64(out: &mut [u8], at: usize, n: u64)
-    ensures { λ _. ⌜ now (out .exit) ≡ putAt (now (out .entry)) at (be 8 n) ⌝ }
-{
-    if wire::left(out, at) < 8 {
-        return;
-    }
-    put_u32(out, at, (n / 4_294_967_296) as u32);
-    put_u32(out, at + 4, (n % 4_294_967_296) as u32);
 }
 
 // Whether a TLV can be written from a view of a buffer of length room. A two-byte type always can: it is asked for so that the

@@ -8,7 +8,7 @@ use lib.ListN.{length, take, drop}
 use Rattle.wire.specs.Refusal.{noRefusal}
 use Rattle.wire.specs.View.{view}
 use Rattle.wire.proofs.Bytes.{number-is}
-use Rattle.models.specs.Time.{timeOf}
+use Rattle.times.specs.Time.{timeOf}
 use Rattle.openbmp.specs.Shown.{shownIp}
 use Rattle.openbmp.specs.Read.{routerIpOf, familyOf}
 use Rattle.openbmp.proofs.read_header.Statement.{statement}

@@ -12,7 +12,7 @@ use Rattle.per_peer_header.specs.Warnings.{warningsOf, warnings}
 use Rattle.per_peer_header.proofs.Fields.{there, address-there, address-bytes}
 use Rattle.wire.specs.Bytes.{numAt}
 use Rattle.wire.specs.Refusal.{refusal, noRefusal}
-use Rattle.models.specs.Time.{timeOf}
+use Rattle.times.specs.Time.{timeOf}
 use Rattle.per_peer_header.proofs.read_header.Statement.{statement}
 use Rattle.per_peer_header.proofs.read_header.Tie as tie
 

@@ -1,5 +1,5 @@
 use borrow.Author.Needs.{needs}
-use Rattle.models.proofs.Times.{equal-number}
+use Rattle.times.proofs.Times.{equal-number}
 use Rattle.readings.proofs.bits_of.Statement.{statement}
 use Rattle.readings.proofs.bits_of.Tie as tie
 
