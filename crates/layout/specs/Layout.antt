@@ -1,6 +1,6 @@
 -- A run of fields of fixed widths, one after the other.
 use Prim.Native.Nat.{ℕ, _+_}
-use mathlib.Core.List.{List, [], _∷_, _++_}
+use mathlib.Core.List.{List, [], _∷_}
 use lib.Dec.{leb}
 use lib.ListN.{take, drop, replicate}
 use Rattle.wire.specs.Bytes.{pick, has}
@@ -24,7 +24,3 @@ cutIn ws at n = cutAt (firstCut ws at n)
 -- sixteen bytes at every place: zeros where not all of them are there
 abbrev pub sixteenAt : List ℕ → ℕ → List ℕ
 sixteenAt s at = pick (has 16 s at) (take 16 (drop at s)) (replicate 16 0)
-
--- the last four of sixteen octets, and zeros before them
-abbrev pub lastFour : List ℕ → List ℕ
-lastFour octets = replicate 12 0 ++ drop 12 octets

@@ -5,14 +5,13 @@ use wire::Refusal;
 use wire::View;
 use writing::WriteAnswer;
 ghost use mathlib.Core.Path.{_≡_};
-ghost use mathlib.Core.List.{_++_};
 ghost use Prim.Native.Nat.{_≤_, _<_, _+_};
-ghost use lib.ListN.{length, take, replicate};
+ghost use lib.ListN.{length};
 ghost use Rattle.wire.specs.Refusal.{refusal};
 ghost use Rattle.writing.specs.Write.{putAt, writeAnswer, written};
 ghost use Rattle.openbmp.specs.Grammar.{flagsOf};
-ghost use Rattle.openbmp.specs.Shown.{shownIp, shown, refused};
-ghost use Rattle.openbmp.specs.Read.{routerIpOf, familyOf, partsOf, cut, afterRowCount, afterGroupLength, afterAdminLength, afterType, afterFlags, afterVersions, afterMagic, readOpenBmpHeader};
+ghost use Rattle.openbmp.specs.Shown.{shown, refused};
+ghost use Rattle.openbmp.specs.Read.{familyOf, partsOf, cut, afterRowCount, afterGroupLength, afterAdminLength, afterType, afterFlags, afterVersions, afterMagic, readOpenBmpHeader};
 ghost use Rattle.openbmp.specs.Write.{familyBit, fixedFits, ipFits, viewFits, writable, bytesOf, frontBytes, timeBytes, counted, restBytes};
 
 // Beside the time stand the words that it comes from.
@@ -166,7 +165,7 @@ fn read_header(s: &[u8], admin: usize, group: usize) -> OpenBmpAnswer
             place: 40,
             length: admin,
         },
-        router_ip: shown_ip(
+        router_ip: layout::router_ip(
             family(numbers::u8_at(s, 12)),
             layout::sixteen_at(s, 56 + admin),
         ),
@@ -192,34 +191,6 @@ fn family(flags: u8) -> Afi
         return Afi::Ipv6;
     }
     Afi::Ipv4
-}
-
-// The one place where the sixteen bytes of the field become the address that is shown.
-fn shown_ip(afi: Afi, octets: [u8; 16]) -> IpAddr
-    ensures { λ r. ⌜ r ≡ shownIp (routerIpOf afi octets) ⌝ }
-{
-    match afi {
-        Afi::Ipv6 => IpAddr {
-            octets: octets,
-            afi: Afi::Ipv6,
-        },
-        Afi::Ipv4 => IpAddr {
-            octets: first_four(octets),
-            afi: Afi::Ipv4,
-        },
-    }
-}
-
-// An IPv4 address stands in the first four of its field's sixteen bytes here, and in the last four elsewhere in BMP.
-fn first_four(octets: [u8; 16]) -> [u8; 16]
-    ensures { λ r. ⌜ r ≡ take 4 octets ++ replicate 12 0 ⌝ }
-{
-    let mut kept = [0; 16];
-    kept[0] = octets[0];
-    kept[1] = octets[1];
-    kept[2] = octets[2];
-    kept[3] = octets[3];
-    kept
 }
 
 fn refuse(number: u8, place: usize) -> OpenBmpAnswer
@@ -357,7 +328,7 @@ fn ip_fits(address: IpAddr) -> bool
 {
     let afi = address.afi;
     let octets = address.octets;
-    shown_ip(afi, octets).equals(address)
+    layout::router_ip(afi, octets).equals(address)
 }
 
 // The length of a view has two bytes on the wire.

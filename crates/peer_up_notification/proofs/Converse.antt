@@ -20,16 +20,18 @@ use Rattle.writing.proofs.Table.{kept-each}
 use Rattle.writing.proofs.Trip.{parts-back}
 use Rattle.tlv_table.proofs.Written.{view-long, good-fits}
 use Rattle.tlv_table.proofs.Translated.{bytes-translated}
+use Rattle.layout.specs.Address.{shownIp}
 use Rattle.models.specs.declared.IpAddr.{IpAddr}
 use Rattle.models.proofs.Promises.{equals-is-equality}
 use Rattle.peer_type.specs.declared.BmpPeerType.{BmpPeerType}
 use Rattle.peer_up_notification.specs.Grammar.{messageBytes, ReadTlv, skippedFor, Reading, join}
 use Rattle.peer_up_notification.specs.Shown.{kindOf, zeroTlv, places, entry, tlvsAt, shownAddress, shown}
-use Rattle.peer_up_notification.specs.Read.{localAddress, reader}
+use Rattle.peer_up_notification.specs.Read.{reader}
 use Rattle.peer_up_notification.specs.Write.{openOf, partOf, addressWritable, openWritable, writer, kept, bytesOf, tlvsWritable, writable, entryOf, Typed, SameTlv, Same}
 use Rattle.peer_up_notification.specs.declared.PeerUpNotificationTlv.{PeerUpNotificationTlv}
 use Rattle.peer_up_notification.specs.declared.PeerUpNotification.{PeerUpNotification}
 use Rattle.peer_up_notification.specs.declared.PeerUpAnswer.{PeerUpAnswer}
+use Rattle.peer_up_notification.proofs.Address.{address-shown}
 use Rattle.peer_up_notification.proofs.Names.{kindOf-typeOf}
 use Rattle.peer_up_notification.proofs.Opens.{OneMessage, one-message}
 use Rattle.peer_up_notification.proofs.Written.{fine-from, translates, open-from}
@@ -96,7 +98,8 @@ module _ (peer : BmpPeerType) (m : PeerUpNotification) (b : List ℕ) (p : Bytes
       let k = skippedFor (a .afi) in
       let octets : drop k (a .octets) ≡ q .address =
       ap (λ (y : IpAddr). drop k (y .octets)) (same .address-same) ∙ drop-at (replicate k 0) (q .address) k (length-replicate k 0) in
-      equals-is-equality (localAddress (a .afi) (a .octets)) a .1 (ap (shownAddress (a .afi)) octets ∙ sym (same .address-same))
+      equals-is-equality (shownIp (a .afi) (a .octets)) a .1
+      (address-shown (a .afi) (a .octets) ∙ ap (shownAddress (a .afi)) octets ∙ sym (same .address-same))
 
   sent-fits : openWritable b (m .«sent_open») ≡ true
   sent-fits =

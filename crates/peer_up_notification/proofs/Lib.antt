@@ -1,3 +1,4 @@
+pub mod Address
 pub mod Names
 pub mod Steps
 pub mod Laws

@@ -24,6 +24,7 @@ use Rattle.peer_up_notification.specs.Warnings.{Head, warningsOf}
 use Rattle.peer_up_notification.specs.Shown.{entry, sentAt, receivedAt, tlvsAt, shownAddress, shownFront, goodAnswer, Fits, shown}
 use Rattle.peer_up_notification.specs.Read.{frontOf, kit, withTlvs, withReceived, withSent, readPeerUp}
 use Rattle.peer_up_notification.specs.declared.PeerUpAnswer.{PeerUpAnswer}
+use Rattle.peer_up_notification.proofs.Address.{address-shown}
 use Rattle.peer_up_notification.proofs.Names.{heads-shown}
 use Rattle.peer_up_notification.proofs.Laws.{laws, tails}
 use Rattle.peer_up_notification.proofs.Opens.{MessageAt, message-at}
@@ -88,10 +89,11 @@ module _ (afi : Afi) (r : Reading) (g : Good afi r) where
       let octets : sixteenAt s 0 ≡ field = rw (le-leb 16 (length s - 0) (omega arith)) field-at in
       let address : drop (skippedFor afi) (sixteenAt s 0) ≡ r .address =
       ap (drop (skippedFor afi)) octets ∙ drop-at (r .skipped) (r .address) (skippedFor afi) (g .skipped-fits .many) in
+      let local-address = address-shown afi (sixteenAt s 0) ∙ ap (shownAddress afi) address in
       let local-port = number-is 2 s 16 (omega arith) ∙ local-port-at in
       let remote-port = number-is 2 s 18 (omega arith) ∙ remote-port-at in
       λ i. record {
-        «local_addr» = shownAddress afi (address i);
+        «local_addr» = local-address i;
         «local_port» = local-port i;
         «remote_port» = remote-port i;
         «sent_open» = view sentAt (r .sentOpen .size);

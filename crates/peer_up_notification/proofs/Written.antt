@@ -30,14 +30,15 @@ use Rattle.tlv_table.specs.Tlvs.{entryWritable, tableWritable, tableBytes, putB
 use Rattle.tlv_table.specs.declared.TlvTable.{TlvTable}
 use Rattle.tlv_table.proofs.Written.{view-long, sets-in-front}
 use Rattle.tlv_table.proofs.Translated.{Translates, writable-same, bytes-same}
+use Rattle.layout.specs.Address.{shownIp}
 use Rattle.models.specs.declared.IpAddr.{IpAddr}
 use Rattle.models.proofs.Promises.{equals-is-equality}
 use Rattle.peer_up_notification.specs.Grammar.{messageBytes, skippedFor}
-use Rattle.peer_up_notification.specs.Shown.{kindOf, places}
-use Rattle.peer_up_notification.specs.Read.{localAddress}
+use Rattle.peer_up_notification.specs.Shown.{kindOf, places, shownAddress}
 use Rattle.peer_up_notification.specs.Write.{openOf, addressWritable, openWritable, tlvWritable, writer, kept, bytesOf, tlvsWritable, frontWritable, writable, frontBytes, frontLength, entryOf, tableOf}
 use Rattle.peer_up_notification.specs.declared.PeerUpNotificationTlv.{PeerUpNotificationTlv}
 use Rattle.peer_up_notification.specs.declared.PeerUpNotification.{PeerUpNotification}
+use Rattle.peer_up_notification.proofs.Address.{address-shown}
 use Rattle.peer_up_notification.proofs.Opens.{OneMessage, open-back}
 use Rattle.peer_up_notification.proofs.PeerUpNotification as Notification
 use Rattle.peer_up_notification.proofs.PeerUpNotification.Laws as NotificationLaws
@@ -119,7 +120,7 @@ one-of {b} p v f =
 
 -- ---- what stands before the TLVs
 pub record FineFront (m : PeerUpNotification) (b : List ℕ) : Type 0 where
-  pub address-is : localAddress (m .«local_addr» .afi) (m .«local_addr» .octets) ≡ m .«local_addr»
+  pub address-is : shownAddress (m .«local_addr» .afi) (drop (skippedFor (m .«local_addr» .afi)) (m .«local_addr» .octets)) ≡ m .«local_addr»
   pub sent : FineOpen b (m .«sent_open»)
   pub received : FineOpen b (m .«received_open»)
 
@@ -129,7 +130,9 @@ front-of m b e =
     let a = and-eq-true-iff (addressWritable address) _ .0 e in
     let s = and-eq-true-iff (openWritable b (m .«sent_open»)) (openWritable b (m .«received_open»)) .0 (a .1) in
     record {
-      address-is = equals-is-equality (localAddress (address .afi) (address .octets)) address .0 (a .0);
+      address-is =
+          sym (address-shown (address .afi) (address .octets))
+          ∙ equals-is-equality (shownIp (address .afi) (address .octets)) address .0 (a .0);
       sent = open-of b (m .«sent_open») (s .0);
       received = open-of b (m .«received_open») (s .1);
     }

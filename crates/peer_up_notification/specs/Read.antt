@@ -16,12 +16,12 @@ use Rattle.wire.specs.Walk.{stop, bad, item, from, Kit, Out, good, refused, rea
 use Rattle.wire.specs.declared.View.{View}
 use Rattle.wire.specs.Exactly.{Reader}
 use Rattle.layout.specs.Layout.{cutIn, sixteenAt}
+use Rattle.layout.specs.Address.{shownIp}
 use Rattle.models.specs.declared.Afi.{Afi}
-use Rattle.models.specs.declared.IpAddr.{IpAddr}
 use Rattle.peer_type.specs.declared.BmpPeerType.{BmpPeerType}
-use Rattle.peer_up_notification.specs.Grammar.{widths, skippedFor}
+use Rattle.peer_up_notification.specs.Grammar.{widths}
 use Rattle.peer_up_notification.specs.Warnings.{Head, some, isTableName, badTableName, warningsOf}
-use Rattle.peer_up_notification.specs.Shown.{kindOf, places, entry, zeroTlv, sentAt, shownAddress, messageOf, goodAnswer, refusedAnswer, grammar, shown}
+use Rattle.peer_up_notification.specs.Shown.{kindOf, places, entry, zeroTlv, sentAt, messageOf, goodAnswer, refusedAnswer, grammar, shown}
 use Rattle.peer_up_notification.specs.declared.PeerUpNotificationTlv.{PeerUpNotificationTlv}
 use Rattle.peer_up_notification.specs.declared.PeerUpAnswer.{PeerUpAnswer}
 use Rattle.peer_up_notification.specs.declared.Front.{Front}
@@ -32,10 +32,6 @@ use Rattle.peer_up_notification.specs.declared.Step.{Step}
 use Rattle.peer_up_notification.specs.declared.Step.the-variants.{Stop, Bad, Whole}
 
 -- ---- what stands before the TLVs
--- the sixteen octets of the address field, as they are shown
-abbrev pub localAddress : Afi → List ℕ → IpAddr
-localAddress afi octets = shownAddress afi (drop (skippedFor afi) octets)
-
 -- a whole BGP message at a place, whose own length is judged before how much is left of it
 unfoldable pub openAt : List ℕ → ℕ → Open
 openAt s at =
@@ -47,7 +43,7 @@ openAt s at =
 abbrev pub frontOf : Afi → List ℕ → View → View → Front
 frontOf afi s sent received =
     record {
-      «local_addr» = localAddress afi (sixteenAt s 0);
+      «local_addr» = shownIp afi (sixteenAt s 0);
       «local_port» = numberAt 2 s 16;
       «remote_port» = numberAt 2 s 18;
       «sent_open» = sent;

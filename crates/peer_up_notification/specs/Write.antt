@@ -14,11 +14,11 @@ use Rattle.writing.specs.Table.{Writer, parts, allOk}
 use Rattle.tlv_table.specs.declared.TlvValue.the-variants.{Part}
 use Rattle.tlv_table.specs.declared.TlvEntry.{TlvEntry}
 use Rattle.tlv_table.specs.declared.TlvTable.{TlvTable}
+use Rattle.layout.specs.Address.{shownIp}
 use Rattle.models.specs.Address.{sameAddress}
 use Rattle.models.specs.declared.IpAddr.{IpAddr}
 use Rattle.peer_up_notification.specs.Grammar.{Message, skippedFor, Reading, join}
 use Rattle.peer_up_notification.specs.Shown.{kindOf, zeroTlv, places}
-use Rattle.peer_up_notification.specs.Read.{localAddress}
 use Rattle.peer_up_notification.specs.declared.PeerUpNotificationTlv.{PeerUpNotificationTlv}
 use Rattle.peer_up_notification.specs.declared.PeerUpNotification.{PeerUpNotification}
 
@@ -32,7 +32,7 @@ partOf b t = record { kind = kindOf (t .«info_type»); size = t .«info_len»; 
 
 -- ---- an address is writable where it is the one that its octets show: where bytes are skipped, they are zero
 abbrev pub addressWritable : IpAddr → Bool
-addressWritable a = sameAddress (localAddress (a .afi) (a .octets)) a
+addressWritable a = sameAddress (shownIp (a .afi) (a .octets)) a
 
 -- ---- a BGP message is writable: its view lies inside the buffer and has 19 to 65,535 bytes, and its own length says as many
 unfoldable pub openWritable : List ℕ → View → Bool

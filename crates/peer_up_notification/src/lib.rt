@@ -23,7 +23,7 @@ ghost use Rattle.layout.specs.Layout.{cutIn};
 ghost use Rattle.writing.specs.Write.{writeAnswer, written};
 ghost use Rattle.peer_up_notification.specs.Grammar.{widths};
 ghost use Rattle.peer_up_notification.specs.Shown.{typeOf, kindOf, zeroTlv, messageOf, goodAnswer, refusedAnswer};
-ghost use Rattle.peer_up_notification.specs.Read.{localAddress, openAt, frontOf, stepAt, kit, headIn, headsIn, warningsIn, namesOf, heardOf, withTlvs, withReceived, readPeerUp};
+ghost use Rattle.peer_up_notification.specs.Read.{openAt, frontOf, stepAt, kit, headIn, headsIn, warningsIn, namesOf, heardOf, withTlvs, withReceived, readPeerUp};
 ghost use Rattle.peer_up_notification.specs.Write.{addressWritable, openWritable, kept, bytesOf, frontWritable, writable, frontBytes, frontLength, entryOf, tableOf};
 
 // 1 and 2 are the names of an Initiation message, whose numbers Peer Up shared before RFC 9736.
@@ -170,27 +170,11 @@ fn front_of(s: &[u8], afi: Afi, sent_open: View, received_open: View) -> Front
 {
     let octets = layout::sixteen_at(s, 0);
     Front {
-        local_addr: local_address(afi, octets),
+        local_addr: layout::shown_ip(afi, octets),
         local_port: numbers::u16_at(s, 16),
         remote_port: numbers::u16_at(s, 18),
         sent_open: sent_open,
         received_open: received_open,
-    }
-}
-
-// The one place where the sixteen bytes of the field become the address that is shown.
-fn local_address(afi: Afi, octets: [u8; 16]) -> IpAddr
-    ensures { λ r. ⌜ r ≡ localAddress afi octets ⌝ }
-{
-    match afi {
-        Afi::Ipv4 => IpAddr {
-            octets: layout::last_four(octets),
-            afi: Afi::Ipv4,
-        },
-        Afi::Ipv6 => IpAddr {
-            octets: octets,
-            afi: Afi::Ipv6,
-        },
     }
 }
 
@@ -443,7 +427,7 @@ fn address_writable(address: IpAddr) -> bool
 {
     let afi = address.afi;
     let octets = address.octets;
-    local_address(afi, octets).equals(address)
+    layout::shown_ip(afi, octets).equals(address)
 }
 
 // A view that lies outside shows nothing, so no length of its own.

@@ -1,3 +1,4 @@
+pub mod Address
 pub mod Warned
 pub mod Fields
 pub mod Written

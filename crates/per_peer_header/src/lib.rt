@@ -18,6 +18,7 @@ ghost use lib.ListN.{length};
 ghost use lib.Seq.{sets};
 ghost use Rattle.wire.specs.Bytes.{pick};
 ghost use Rattle.layout.specs.Layout.{cutIn};
+ghost use Rattle.models.specs.Address.{sameAddress};
 ghost use Rattle.writing.specs.Write.{writeAnswer, written};
 ghost use Rattle.peer_type.specs.Peer.{typeOf};
 ghost use Rattle.per_peer_header.specs.Grammar.{widths};
@@ -137,26 +138,15 @@ fn type_of(kind: u8) -> BmpPeerType
     }
 }
 
-// The one place where the sixteen bytes of the field become the address that is shown.
 fn shown_address(kind: u8, flags: PerPeerFlags, octets: [u8; 16]) -> IpAddr
     ensures { λ r. ⌜ r ≡ shownAddress (addressField kind (flags .0) octets) ⌝ }
 {
     if kind == peer_type::LOCAL_RIB {
         return IpAddr::unspecified();
     }
-    match flags.address_family() {
-        Afi::Ipv6 => IpAddr {
-            octets: octets,
-            afi: Afi::Ipv6,
-        },
-        Afi::Ipv4 => IpAddr {
-            octets: layout::last_four(octets),
-            afi: Afi::Ipv4,
-        },
-    }
+    layout::shown_ip(flags.address_family(), octets)
 }
 
-// The one place where the number of the field's four bytes becomes the AS that is shown.
 fn shown_asn(kind: u8, flags: PerPeerFlags, number: u32) -> u32
     ensures { λ r. ⌜ r ≡ shownAsn (asField kind (flags .0) number) ⌝ }
 {
@@ -225,17 +215,39 @@ fn is_writable(header: BmpPerPeerHeader) -> bool
 {
     let peer_type = header.peer_type;
     let peer_ip = header.peer_ip;
-    let octets = peer_ip.octets;
     let kind = peer_type.number();
     let flags = header.peer_flags;
-    let asn = header.peer_asn.0;
-    if !shown_address(kind, flags, octets).equals(peer_ip) {
+    if !address_fits(kind, flags, peer_ip) {
         return false;
     }
-    if shown_asn(kind, flags, asn) != asn {
+    if !asn_fits(kind, flags, header.peer_asn.0) {
         return false;
     }
     times::is_timestamp(header.timestamp, header.seconds, header.microseconds)
+}
+
+// Whether a reader shows this address again, once its octets are written.
+fn address_fits(kind: u8, flags: PerPeerFlags, address: IpAddr) -> bool
+    ensures { λ r. ⌜ r ≡ sameAddress (shownAddress (addressField kind (flags .0) (address .octets))) address ⌝ }
+{
+    if kind == peer_type::LOCAL_RIB {
+        return IpAddr::unspecified().equals(address);
+    }
+    let octets = address.octets;
+    layout::shown_ip(flags.address_family(), octets).equals(address)
+}
+
+// The number of a Loc-RIB's AS has all four bytes, whatever its flags hold.
+fn asn_fits(kind: u8, flags: PerPeerFlags, asn: u32) -> bool
+    ensures { λ r. ⌜ r ≡ eqb (shownAsn (asField kind (flags .0) asn)) asn ⌝ }
+{
+    if kind == peer_type::LOCAL_RIB {
+        return true;
+    }
+    match flags.asn_length() {
+        AsnLength::Bits16 => asn < 65_536,
+        AsnLength::Bits32 => true,
+    }
 }
 
 // In a writable header the octets that are skipped on reading are zero, so all sixteen are put as they are.

@@ -5,12 +5,14 @@ use mathlib.Core.Path.{_≡_, ap, _∙_}
 use Prim.Native.Nat.{_+_, _-_, _≤_}
 use borrow.Author.Tests.{le-leb}
 use lib.ListN.{length, take, drop}
+use Rattle.wire.specs.Bytes.{numAt}
 use Rattle.wire.specs.Refusal.{noRefusal}
 use Rattle.wire.specs.View.{view}
 use Rattle.wire.proofs.Bytes.{number-is}
 use Rattle.times.specs.Time.{timeOf}
-use Rattle.openbmp.specs.Shown.{shownIp}
-use Rattle.openbmp.specs.Read.{routerIpOf, familyOf}
+use Rattle.layout.specs.Address.{routerIp}
+use Rattle.openbmp.specs.Read.{familyOf}
+use Rattle.openbmp.proofs.Address.{router-ip-shown}
 use Rattle.openbmp.proofs.read_header.Statement.{statement}
 use Rattle.openbmp.proofs.read_header.Tie as tie
 
@@ -50,8 +52,8 @@ add-sixteen-at c = search needs
 sixteen-at-requires : tie.Need-sixteen-at-requires
 sixteen-at-requires c κs = search needs
 
-shown-ip-requires : tie.Need-shown-ip-requires
-shown-ip-requires c κs = search needs
+router-ip-requires : tie.Need-router-ip-requires
+router-ip-requires c κs = search needs
 
 add-t19 : tie.Need-add-t19
 add-t19 c = search needs
@@ -79,7 +81,7 @@ returns c =
     let timestamp = c .before .before .before .before .timestamp .ensures ∙ (λ i. timeOf (seconds i) (microseconds i)) in
     let family = c .before .before .family .ensures ∙ ap familyOf flags in
     let octets : c .before .sixteen-at .result ≡ take 16 (drop (56 + a) s) = c .before .sixteen-at .ensures ∙ rw (le-leb 16 (length s - (56 + a)) (omega arith)) in
-    let router-ip = c .shown-ip .ensures ∙ (λ i. shownIp (routerIpOf (family i) (octets i))) in
+    let router-ip = c .router-ip .ensures ∙ (λ i. routerIp (family i) (octets i)) ∙ router-ip-shown (familyOf (numAt 1 s 12)) (take 16 (drop (56 + a) s)) in
     λ i. record {
       refusal = noRefusal;
       stop = 78 + a + g;
@@ -114,7 +116,7 @@ read-header-spec =
     family-requires
     add-sixteen-at
     sixteen-at-requires
-    shown-ip-requires
+    router-ip-requires
     add-t19
     add-t18
     add-t19-2

@@ -1,7 +1,7 @@
 use borrow.Author.Needs.{needs}
 use mathlib.Core.Path.{sym}
-use Rattle.peer_up_notification.proofs.local_address.Statement.{statement}
-use Rattle.peer_up_notification.proofs.local_address.Tie as tie
+use Rattle.layout.proofs.shown_ip.Statement.{statement}
+use Rattle.layout.proofs.shown_ip.Tie as tie
 
 enum-told : tie.Need-enum-told
 enum-told c = search needs
@@ -18,6 +18,6 @@ returns c = sym (rw (c .before .enum-told .given .1, ← c .last-four .ensures))
 returns-2 : tie.Need-returns-2
 returns-2 c = sym (rw (c .enum-told2 .given .1))
 
-pub local-address-spec : {M : Type 1} → statement M
-local-address-spec =
+pub shown-ip-spec : {M : Type 1} → statement M
+shown-ip-spec =
     tie.close (tie.spec enum-told last-four-requires enum-told-2 returns returns-2)
