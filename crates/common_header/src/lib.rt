@@ -3,18 +3,12 @@ use cursor::Cursor;
 use cursor::ReadU8;
 use cursor::ReadU32;
 use wire::Refusal;
-use writing::WriteAnswer;
 ghost use mathlib.Core.Path.{_≡_};
-ghost use Prim.Native.Nat.{_≤_};
-ghost use lib.ListN.{length};
-ghost use lib.Seq.{sets};
 ghost use Rattle.wire.specs.Refusal.{refusal};
-ghost use Rattle.writing.specs.Write.{writeAnswer, written};
 ghost use Rattle.common_header.specs.declared.CommonFields.{CommonFields};
 ghost use Rattle.common_header.specs.declared.CommonHeaderAnswer.{CommonHeaderAnswer};
 ghost use Rattle.common_header.specs.Shown.{typeOf, kindOf};
 ghost use Rattle.common_header.specs.Read.{readFields, judged, readCommonHeader};
-ghost use Rattle.common_header.specs.Write.{writable, bytesOf};
 
 pub enum BmpMsgType {
     RouteMonitoring,
@@ -114,37 +108,6 @@ fn type_of(kind: u8) -> BmpMsgType
         5 => BmpMsgType::TerminationMessage,
         _ => BmpMsgType::RouteMirroringMessage,
     }
-}
-
-pub fn write_bmp_common_header(header: BmpCommonHeader, out: &mut [u8]) -> WriteAnswer
-    ensures { λ r. ⌜ r ≡ writeAnswer (writable header) (length (bytesOf header)) (length (now (out .entry))) ⌝ }
-    ensures { λ _. ⌜ now (out .exit) ≡ written (writable header) (bytesOf header) (now (out .entry)) ⌝ }
-{
-    let answer = writing::write_answer(is_writable(header), 6, out.len());
-    let WriteAnswer::Written(_) = answer else {
-        return answer;
-    };
-    put_header(header, out);
-    answer
-}
-
-fn is_writable(header: BmpCommonHeader) -> bool
-    ensures { λ r. ⌜ r ≡ writable header ⌝ }
-{
-    if header.version != 3 {
-        return false;
-    }
-    true
-}
-
-fn put_header(header: BmpCommonHeader, out: &mut [u8])
-    requires { ⌜ 6 ≤ length (now out) ⌝ }
-    ensures { λ _. ⌜ now (out .exit) ≡ sets (now (out .entry)) 0 (bytesOf header) ⌝ }
-{
-    let msg_type = header.msg_type;
-    put_numbers::put_u8(out, 0, header.version);
-    put_numbers::put_u32(out, 1, header.msg_len);
-    put_numbers::put_u8(out, 5, kind_of(msg_type));
 }
 
 // The number that stands for a type on the wire.

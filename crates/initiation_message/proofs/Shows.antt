@@ -1,7 +1,7 @@
 -- What the reader shows: a good reading, with views that show its values. Assumes nothing.
 use mathlib.Core.Path.{_≡_, ap, _∙_}
 use mathlib.Core.List.{List}
-use Prim.Native.Nat.{ℕ, _-_, _≤_}
+use Prim.Native.Nat.{ℕ, _≤_}
 use borrow.Author.Tests.{le-ltb}
 use lib.ListN.{length}
 use Rattle.wire.specs.Number as Number
@@ -10,7 +10,6 @@ use Rattle.wire.specs.Tlv.{Tlv, Tail}
 use Rattle.wire.proofs.Tlv.{tail-join}
 use Rattle.wire.proofs.Walk as Walk
 use Rattle.wire.specs.Exactly.{Shows}
-use Rattle.writing.specs.Table.{joined}
 use Rattle.initiation_message.specs.Shown.{entry, shown}
 use Rattle.initiation_message.specs.Read.{kit, answer, reader}
 use Rattle.initiation_message.proofs.Laws.{laws, tails}

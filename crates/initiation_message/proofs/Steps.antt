@@ -21,7 +21,6 @@ use Rattle.wire.proofs.Tlv.{NoTlv}
 use Rattle.initiation_message.specs.Shown.{typeOf, entry}
 use Rattle.initiation_message.specs.Read.{step, told, stepAt}
 use Rattle.initiation_message.specs.declared.InitiationTlv.{InitiationTlv}
-use Rattle.initiation_message.specs.declared.Step.{Step}
 use Rattle.initiation_message.specs.declared.Step.the-variants.{Stop, Whole}
 
 pub data Seen (s : List ℕ) : Walk.Step Tlv → Type 0 where

@@ -56,7 +56,7 @@ fn longer_stats(s: &[u8], buffer: &[u8], out: &mut [u8]) -> WriteAnswer {
         stat_len: LARGE + 1,
         stat_data: StatsData::Unknown(larger_value()),
     };
-    stats_report::write_stats_report(report, buffer, out)
+    stats_report_writer::write_stats_report(report, buffer, out)
 }
 
 fn longer_initiation(s: &[u8], buffer: &[u8], out: &mut [u8]) -> WriteAnswer {
@@ -67,7 +67,7 @@ fn longer_initiation(s: &[u8], buffer: &[u8], out: &mut [u8]) -> WriteAnswer {
         info_len: LARGE + 1,
         info: larger_value(),
     };
-    initiation_message::write_initiation_message(message, buffer, out)
+    initiation_message_writer::write_initiation_message(message, buffer, out)
 }
 
 fn longer_termination(s: &[u8], buffer: &[u8], out: &mut [u8]) -> WriteAnswer {
@@ -77,7 +77,7 @@ fn longer_termination(s: &[u8], buffer: &[u8], out: &mut [u8]) -> WriteAnswer {
         info_len: LARGE + 1,
         info_value: TerminationTlvValue::String(larger_value()),
     };
-    termination_message::write_termination_message(message, buffer, out)
+    termination_message_writer::write_termination_message(message, buffer, out)
 }
 
 fn longer_mirroring(s: &[u8], buffer: &[u8], out: &mut [u8]) -> WriteAnswer {
@@ -87,7 +87,7 @@ fn longer_mirroring(s: &[u8], buffer: &[u8], out: &mut [u8]) -> WriteAnswer {
         info_len: LARGE + 1,
         value: RouteMirroringValue::BgpMessage(larger_value()),
     };
-    route_mirroring::write_route_mirroring(message, buffer, out)
+    route_mirroring_writer::write_route_mirroring(message, buffer, out)
 }
 
 fn longer_peer_up(arguments: Arguments, s: &[u8], buffer: &[u8], out: &mut [u8]) -> WriteAnswer {
@@ -100,7 +100,7 @@ fn longer_peer_up(arguments: Arguments, s: &[u8], buffer: &[u8], out: &mut [u8])
         info_len: LARGE + 1,
         info_value: larger_value(),
     };
-    peer_up_notification::write_peer_up_notification(message, buffer, out)
+    peer_up_notification_writer::write_peer_up_notification(message, buffer, out)
 }
 
 // The value of the second entry of a whole table, and the first byte of the third entry.
@@ -120,7 +120,7 @@ fn longer_peer_down(buffer: &[u8], out: &mut [u8]) -> WriteAnswer {
         reason: PeerDownReason::LocalSystemClosedNotificationPduFollows,
         data: PeerDownData::Present(data),
     };
-    peer_down_notification::write_peer_down_notification(notification, buffer, out)
+    peer_down_notification_writer::write_peer_down_notification(notification, buffer, out)
 }
 
 fn longer_monitoring(buffer: &[u8], out: &mut [u8]) -> WriteAnswer {
@@ -131,5 +131,5 @@ fn longer_monitoring(buffer: &[u8], out: &mut [u8]) -> WriteAnswer {
     let message = RouteMonitoring {
         bgp_message: bgp_message,
     };
-    route_monitoring::write_route_monitoring(message, buffer, out)
+    route_monitoring_writer::write_route_monitoring(message, buffer, out)
 }

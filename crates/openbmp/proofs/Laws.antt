@@ -11,11 +11,12 @@ use lib.Seq.{length-take-le, take-at, drop-at, drop-drop}
 use Rattle.wire.specs.Number as Number
 use Rattle.wire.specs.Bytes.{pick, be, value, numAt, Bytes, Octets}
 use Rattle.wire.proofs.Bytes.{value-be, num-lt, num-back, part-back, bytes-take, bytes-drop}
-use Rattle.wire.proofs.Views.{octets-part}
+use Rattle.wire.proofs.Views.{octets-part, viewed-inside}
 use Rattle.models.specs.declared.Afi.{Afi}
 use Rattle.models.specs.declared.Afi.the-variants.{Ipv4, Ipv6}
 use Rattle.openbmp.specs.Grammar.{RouterIp, ipv4, ipv6, Reading, flagsOf, routerIpBytes, joinRest, join, RouterIpFits, bitOf, Good}
 use Rattle.openbmp.specs.Read.{routerIpOf, familyOf, partsOf}
+use Rattle.wire.specs.View.{view, viewed}
 
 -- ---- the flags and the address: joined, then taken apart
 bit-small : (ip : RouterIp) → bitOf ip ≤ 1
@@ -275,3 +276,13 @@ join-accepted r g short =
       long = omega (arith, length-join r g, admin, group);
       rows = field (λ q. q .rowCount) ∙ g .row-count-is;
     }
+
+-- ---- the views that show a reading's admin and group
+module _ (r : Reading) (g : Good r) where
+  pub admin-viewed : viewed (join r) (view 40 (r .adminLength)) ≡ r .admin
+  admin-viewed = viewed-inside (join r) (view 40 (r .adminLength)) (omega (arith, length-join r g)) ∙ ap (λ (q : Reading). q .admin) (by-lengths r g)
+
+  pub group-viewed : viewed (join r) (view (74 + r .adminLength) (r .groupLength)) ≡ r .group
+  group-viewed =
+      viewed-inside (join r) (view (74 + r .adminLength) (r .groupLength)) (omega (arith, length-join r g))
+      ∙ ap (λ (q : Reading). q .group) (by-lengths r g)

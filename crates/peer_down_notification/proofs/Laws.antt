@@ -7,17 +7,19 @@ use Prim.Native.Nat.{ℕ, zero, suc, _+_, _-_, _≤_}
 use native.Mathlib.Omega.{arith}
 use borrow.Author.Tests.{leb-true, ltb-true, ltb-false, lt-ltb, le-ltb, le-leb}
 use lib.Dec.{ltb}
-use lib.ListN.{length, drop, length-drop}
+use lib.ListN.{length, drop, length-drop, take}
 use Rattle.wire.specs.Number as Number
 use Rattle.wire.specs.Bytes.{pick, has, be, numAt, Bytes, none}
 use Rattle.wire.specs.Refusal.{refusal, cutAt}
 use Rattle.wire.specs.View.{view}
 use Rattle.wire.proofs.Bytes.{value-be, num-back, bytes-drop}
 use Rattle.peer_down_notification.specs.Grammar.{Data, absent, present, Reading, dataBytes, join, Follows, the-rest, some-rest, no-rest, no-data, Good}
-use Rattle.peer_down_notification.specs.Shown.{reasonOf, shown, refusalOf}
+use Rattle.peer_down_notification.specs.Shown.{reasonOf, shown, refusalOf, shownData, dataOf}
 use Rattle.peer_down_notification.specs.Read.{hasData, apart, partsOf, goodOf, readPeerDown}
 use Rattle.peer_down_notification.specs.declared.PeerDownData.the-variants.{Absent, Present}
 use Rattle.peer_down_notification.specs.declared.PeerDownAnswer.{PeerDownAnswer}
+use lib.Seq.{take-at}
+use Rattle.wire.proofs.Views.{viewed-part}
 
 -- ---- the grammar's rule and the reader's test
 abbrev pub There : Data → Bool
@@ -154,3 +156,12 @@ shows-parts s a =
         ≡ shown (apart b k (drop 1 s))
     go true = λ i. PeerDownAnswer.Good (record { reason = reasonOf k; «data» = Present (view 1 (n i)) }) (1 + n i)
     go false = refl
+
+-- ---- what is shown of a reading's data is that data
+pub data-shown : (k : ℕ) (d : Data) (z : List ℕ) → dataOf (be 1 k ++ (dataBytes d ++ z)) (shownData d) ≡ d
+unfolding be
+data-shown k absent z = refl
+data-shown k (present b) z =
+    let s = be 1 k ++ (b ++ z) in
+    let part : take (length b) (drop 1 s) ≡ b = take-at b z (length b) refl in
+    ap present (viewed-part s (view 1 (length b)) (ap length part) ∙ part)

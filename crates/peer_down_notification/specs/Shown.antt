@@ -4,7 +4,7 @@ use mathlib.Core.Bool.{Bool, true, false}
 use mathlib.Core.List.{List, [], _∷_}
 use lib.ListN.{length, getD}
 use Rattle.wire.specs.Refusal.{noRefusal}
-use Rattle.wire.specs.View.{view}
+use Rattle.wire.specs.View.{view, viewed}
 use Rattle.wire.specs.declared.Refusal.{Refusal}
 use Rattle.wire.specs.declared.View.{View}
 use Rattle.wire.specs.Exactly.{Grammar, noTable}
@@ -71,6 +71,11 @@ isPresent (Present v) = true
 abbrev pub viewOf : PeerDownData → View
 viewOf Absent = view 0 0
 viewOf (Present v) = v
+
+-- the data that a view shows of a buffer
+abbrev pub dataOf : List ℕ → PeerDownData → Data
+dataOf b Absent = absent
+dataOf b (Present v) = present (viewed b v)
 
 -- the grammar; there is no table
 abbrev pub grammar : Grammar

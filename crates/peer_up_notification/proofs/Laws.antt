@@ -3,7 +3,7 @@ use mathlib.Core.Path.{_≡_, refl, sym, ap, _∙_, subst}
 use mathlib.Core.List.{List, []}
 use Prim.Native.Nat.{ℕ, _-_, _≤_, _<_}
 use native.Mathlib.Omega.{arith}
-use lib.ListN.{length, take, drop}
+use lib.ListN.{length, take, drop, length-map}
 use Rattle.wire.specs.Bytes.{Bytes}
 use Rattle.wire.specs.Tlv.{Tlv, putTlv, sizeOf}
 use Rattle.wire.specs.Walk.{stop, item, Out, refused}
@@ -13,13 +13,19 @@ use Rattle.wire.proofs.Tlv.{tlv-length, tlv-there, tlv-join, tlv-rest, tlv-part
 use Rattle.wire.proofs.Walk.{Takes, Faults, Laws, Tails, onwards, TurnTo, turn-to, onwards-bad, resume-stop}
 use Rattle.peer_type.specs.declared.BmpPeerType.{BmpPeerType}
 use Rattle.peer_up_notification.specs.Grammar.{ReadTlv, GoodTail}
-use Rattle.peer_up_notification.specs.Shown.{messageOf, goodAnswer}
+use Rattle.peer_up_notification.specs.Shown.{messageOf, goodAnswer, places}
 use Rattle.peer_up_notification.specs.Read.{step, stepAt, kit, warningsIn, withTlvs}
 use Rattle.peer_up_notification.specs.declared.PeerUpNotificationTlv.{PeerUpNotificationTlv}
 use Rattle.peer_up_notification.specs.declared.PeerUpAnswer.{PeerUpAnswer}
 use Rattle.peer_up_notification.specs.declared.Front.{Front}
 use Rattle.peer_up_notification.specs.declared.Step.the-variants.{Stop, Bad, Whole}
 use Rattle.peer_up_notification.proofs.Steps.{see, none-of, whole-of, Found, found, stopped, numbered, was-stop, was-bad, was-whole}
+use mir.Val.{Val}
+use denote.Laws.{Is}
+use denote.Struct.Laws as Struct
+use Rattle.peer_up_notification.specs.declared.PeerUpNotification.{PeerUpNotification}
+use Rattle.peer_up_notification.proofs.PeerUpNotification as Notification
+use Rattle.peer_up_notification.proofs.PeerUpNotification.Laws as NotificationLaws
 
 pub faults : Faults kit
 faults s r e = numbered s r (see s) e
@@ -75,3 +81,7 @@ ends-well peer f n at table s p o a e h shown =
     let w = was-stop at p (step (drop at s)) h in
     shown ∙ ap (λ (k : ℕ). goodAnswer k (warningsIn peer (take n table)) (messageOf f n table)) (w .1)
     ∙ ap (withTlvs peer f) (sym (e ∙ resume-stop kit n at table s (length s - n) (w .0)))
+
+-- how long the table of a notification is, from what owning one tells
+pub table-long : (m : PeerUpNotification) (vs : List Val) → Is Notification.the-row m vs → length (m .tlvs) ≡ places
+table-long m vs is = sym (length-map (m .tlvs) _) ∙ Struct.owed Notification.the-type NotificationLaws.the-laws m vs is .1 .1 .1 .1 .1 .0 .1 .0 .1

@@ -3,9 +3,6 @@ pub mod Names
 pub mod Steps
 pub mod Laws
 pub mod Opens
-pub mod Written
 pub mod Shows
 pub mod Sound
-pub mod Trip
-pub mod Converse
 pub mod Promises

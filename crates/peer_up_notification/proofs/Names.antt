@@ -1,9 +1,8 @@
 -- What the entries of a table say of its table's name, one after the other, and what the TLVs that they show say. Assumes nothing.
 use mathlib.Core.Path.{_≡_, refl, sym, ap, ap₂, _∙_}
-use mathlib.Core.Bool.{Bool, true, _||_, or-false, or-true, or-assoc}
+use mathlib.Core.Bool.{Bool, true, false, _||_, or-false, or-true, or-assoc}
 use mathlib.Core.List.{List, [], _∷_, _++_, map}
 use Prim.Native.Nat.{ℕ, zero, suc, _+_}
-use borrow.Author.Tests.{eq-eqb, ne-eqb}
 use lib.Dec.{eqb, ltb}
 use lib.ListN.{length, take, drop}
 use Rattle.wire.specs.Parts.{shownFrom}
@@ -17,17 +16,15 @@ use Rattle.peer_up_notification.specs.declared.TableNames.{TableNames}
 
 -- ---- one TLV
 module _ (names : TableNames) (kind size : ℕ) where
-  pub heard-other : (kind ≡ 3 → ⊥) → names ≡ heardOf names (kind, size)
-  heard-other h =
-      let e = ne-eqb kind 3 h in
+  pub heard-other : eqb kind 3 ≡ false → names ≡ heardOf names (kind, size)
+  heard-other e =
       let some-is : names .some ≡ names .some || eqb kind 3 = rw e (sym (or-false (names .some))) in
       let bad-is : names .bad ≡ names .bad || badTableName (kind, size) = rw e (sym (or-false (names .bad))) in
       λ i. record { some = some-is i; bad = bad-is i }
 
-  pub heard-name : (b : Bool) → kind ≡ 3 → b ≡ names .bad || (eqb size 0 || ltb 255 size)
+  pub heard-name : (b : Bool) → eqb kind 3 ≡ true → b ≡ names .bad || (eqb size 0 || ltb 255 size)
       → record { some = true; bad = b } ≡ heardOf names (kind, size)
-  heard-name b h k =
-      let e = eq-eqb kind 3 h in
+  heard-name b e k =
       let some-is : true ≡ names .some || eqb kind 3 = rw e (sym (or-true (names .some))) in
       let bad-is : b ≡ names .bad || badTableName (kind, size) = rw e k in
       λ i. record { some = some-is i; bad = bad-is i }

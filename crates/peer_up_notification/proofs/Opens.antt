@@ -19,8 +19,7 @@ use Rattle.wire.specs.declared.View.{View}
 use Rattle.wire.proofs.Bytes.{bytes-append, bytes-be, bytes-take, bytes-drop, value-be, num-lt, num-back, part-back, num-drop, num-part}
 use Rattle.wire.proofs.Views.{length-part, viewed-part, octets-part}
 use Rattle.peer_up_notification.specs.Grammar.{Message, messageBytes, GoodMessage}
-use Rattle.peer_up_notification.specs.Read.{openAt}
-use Rattle.peer_up_notification.specs.Write.{openOf}
+use Rattle.peer_up_notification.specs.Read.{openAt, openOf}
 use Rattle.peer_up_notification.specs.declared.Open.{Open}
 use Rattle.peer_up_notification.specs.declared.Open.the-variants.{Broken, Found}
 

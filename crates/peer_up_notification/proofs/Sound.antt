@@ -25,8 +25,7 @@ use Rattle.models.specs.declared.Afi.{Afi}
 use Rattle.peer_type.specs.declared.BmpPeerType.{BmpPeerType}
 use Rattle.peer_up_notification.specs.Grammar.{widths, join, skippedFor, Reading, Good}
 use Rattle.peer_up_notification.specs.Shown.{sentAt, refusedAnswer, Fits}
-use Rattle.peer_up_notification.specs.Read.{openAt, frontOf, kit, withTlvs, withReceived, withSent, readPeerUp}
-use Rattle.peer_up_notification.specs.Write.{openOf}
+use Rattle.peer_up_notification.specs.Read.{openAt, frontOf, kit, withTlvs, withReceived, withSent, readPeerUp, openOf}
 use Rattle.peer_up_notification.specs.declared.PeerUpNotificationTlv.{PeerUpNotificationTlv}
 use Rattle.peer_up_notification.specs.declared.Open.{Open}
 use Rattle.peer_up_notification.specs.declared.Open.the-variants.{Broken, Found}

@@ -19,7 +19,7 @@ use Rattle.layout.specs.Layout.{cutIn, sixteenAt}
 use Rattle.layout.specs.Address.{shownIp}
 use Rattle.models.specs.declared.Afi.{Afi}
 use Rattle.peer_type.specs.declared.BmpPeerType.{BmpPeerType}
-use Rattle.peer_up_notification.specs.Grammar.{widths}
+use Rattle.peer_up_notification.specs.Grammar.{Message, widths}
 use Rattle.peer_up_notification.specs.Warnings.{Head, some, isTableName, badTableName, warningsOf}
 use Rattle.peer_up_notification.specs.Shown.{kindOf, places, entry, zeroTlv, sentAt, messageOf, goodAnswer, refusedAnswer, grammar, shown}
 use Rattle.peer_up_notification.specs.declared.PeerUpNotificationTlv.{PeerUpNotificationTlv}
@@ -32,6 +32,10 @@ use Rattle.peer_up_notification.specs.declared.Step.{Step}
 use Rattle.peer_up_notification.specs.declared.Step.the-variants.{Stop, Bad, Whole}
 
 -- ---- what stands before the TLVs
+-- the bytes of a BGP message by its parts
+abbrev pub openOf : List ℕ → Message
+openOf s = record { marker = take 16 s; size = numAt 2 s 16; rest = drop 18 s }
+
 -- a whole BGP message at a place, whose own length is judged before how much is left of it
 unfoldable pub openAt : List ℕ → ℕ → Open
 openAt s at =

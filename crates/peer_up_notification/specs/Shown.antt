@@ -1,7 +1,7 @@
 -- How a reading is shown in the answer, and what a refusal shows. Nothing here takes an input apart.
 use Prim.Native.Nat.{ℕ, _+_, _-_, _≤_}
 use mathlib.Core.List.{List, [], _∷_, _++_}
-use lib.ListN.{length, replicate, getD}
+use lib.ListN.{length, take, replicate, getD}
 use Rattle.wire.specs.Refusal.{noRefusal}
 use Rattle.wire.specs.View.{view}
 use Rattle.wire.specs.Parts.{shownFrom, endFrom}
@@ -87,6 +87,10 @@ messageOf f count table =
       tlvs = table;
       count = count;
     }
+
+-- the entries of the table that are in use
+abbrev pub kept : PeerUpNotification → List PeerUpNotificationTlv
+kept m = take (m .count) (m .tlvs)
 
 abbrev pub goodAnswer : ℕ → ℕ → PeerUpNotification → PeerUpAnswer
 goodAnswer end word message = record { refusal = noRefusal; stop = end; warnings = word; message = message }

@@ -13,23 +13,16 @@ use Rattle.wire.proofs.Bytes.{num-lt, bytes-drop, number-is}
 use Rattle.wire.proofs.Views.{octets-part}
 use Rattle.wire.proofs.Determined.{determined}
 use Rattle.wire.specs.Exactly.{Sound, Complete, Unique}
-use Rattle.writing.specs.Write.{lengthOf, Wrote}
-use Rattle.writing.specs.declared.WriteAnswer.{WriteAnswer}
-use Rattle.writing.specs.declared.WriteAnswer.the-variants.{Written}
-use Rattle.writing.proofs.Answers.{front, wrote-determined}
 use Rattle.layout.specs.Layout.{firstCut}
 use Rattle.layout.proofs.Promises.{FirstLacking, first-lacking}
-use Rattle.peer.specs.declared.BmpPerPeerHeader.{BmpPerPeerHeader}
-use Rattle.per_peer_header.specs.Grammar.{widths, Reading, addressBytes, join, Good}
+use Rattle.per_peer_header.specs.Grammar.{widths, Reading, addressBytes, join}
 use Rattle.models.specs.Warnings.{countOnes}
 use Rattle.per_peer_header.specs.Warnings.{strayAddress, noRouterId, warnings}
 use Rattle.per_peer_header.specs.Shown.{shown, refused, grammar}
 use Rattle.per_peer_header.specs.Read.{partsOf, readPerPeerHeader, reader}
-use Rattle.per_peer_header.specs.Write.{readingOf, bytesOf, writable, Typed}
 use Rattle.per_peer_header.specs.declared.PerPeerHeaderAnswer.{PerPeerHeaderAnswer}
 use Rattle.per_peer_header.proofs.Fields.{address-fits, as-fits, fields-layout, layout-known}
 use Rattle.per_peer_header.proofs.Laws.{length-join, parts-join, join-parts, Accepted, accepted, shows-parts}
-use Rattle.per_peer_header.proofs.Written.{good-reading, shown-again, again-writable}
 
 -- What the reader accepts has a good reading, which it shows.
 pub sound : Sound reader
@@ -108,42 +101,6 @@ warnings-counted r = go (strayAddress (r .kind) (addressBytes (r .address))) (no
     go false true = refl
     go false false = refl
 
--- ---- the writer
--- the bytes s are read as the header h, to their end
-pub record ReadsBack (h : BmpPerPeerHeader) (s : List ℕ) : Type 0 where
-  pub read-good : readPerPeerHeader s .refusal .number ≡ Number.Good
-  pub whole : readPerPeerHeader s .stop ≡ length s
-  pub same : readPerPeerHeader s .header ≡ h
-
--- its own bytes are read as the header that its reading shows
-reads : (h : BmpPerPeerHeader) → Typed h → readPerPeerHeader (bytesOf h) ≡ shown (readingOf h)
-reads h t = let g = good-reading h t in complete (readingOf h) g tt (omega (arith, length-join (readingOf h) g))
-
--- What the writer has written, where the header is writable and there is room, is read back as that header.
-pub round-trip : (h : BmpPerPeerHeader) → Typed h → (out out′ : List ℕ) (a : WriteAnswer)
-    → Wrote (writable h) (bytesOf h) out a out′
-    → writable h ≡ true → length (bytesOf h) ≤ length out
-    → (a ≡ Written (length (bytesOf h))) × ReadsBack h (take (lengthOf a) out′)
-round-trip h t out out′ a wrote w room =
-    let n = length-join (readingOf h) (good-reading h t) in
-    let f = front wrote w (omega arith) room in
-    let r = reads h t in
-    let back : ReadsBack h (bytesOf h) =
-    record {
-      read-good = ap (λ (x : PerPeerHeaderAnswer). x .refusal .number) r;
-      whole = ap (λ (x : PerPeerHeaderAnswer). x .stop) r ∙ sym n;
-      same = ap (λ (x : PerPeerHeaderAnswer). x .header) r ∙ shown-again h t w;
-    } in
-    (f .answer-is, subst (ReadsBack h) (sym (f .bytes-are)) back)
-
--- A header whose bytes are read back as itself is writable.
-pub only-writable : (h : BmpPerPeerHeader) → Typed h → ReadsBack h (bytesOf h) → writable h ≡ true
-only-writable h t r = again-writable h t (ap (λ (x : PerPeerHeaderAnswer). x .header) (sym (reads h t)) ∙ r .same)
-
--- ---- any two answers, and any two outputs, that the contracts allow are equal
+-- ---- any two answers that the contracts allow are equal
 pub parse-determined : (s : List ℕ) (a b : PerPeerHeaderAnswer) → a ≡ readPerPeerHeader s → b ≡ readPerPeerHeader s → a ≡ b
 parse-determined s a b = determined
-
-pub write-determined : (h : BmpPerPeerHeader) (out : List ℕ) (a b : WriteAnswer) (o p : List ℕ)
-    → Wrote (writable h) (bytesOf h) out a o → Wrote (writable h) (bytesOf h) out b p → (a ≡ b) × (o ≡ p)
-write-determined h out a b o p = wrote-determined

@@ -2,4 +2,3 @@ pub mod Grammar
 pub mod Warnings
 pub mod Shown
 pub mod Read
-pub mod Write

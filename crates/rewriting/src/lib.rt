@@ -31,27 +31,30 @@ fn rewrite_table(kind: Kind, arguments: Arguments, s: &[u8], out: &mut [u8]) -> 
 fn rewrite_common(s: &[u8], out: &mut [u8]) -> WriteAnswer {
     match common_header::parse_bmp_common_header(s) {
         CommonHeaderAnswer::Refused(refusal) => WriteAnswer::Refused(refusal),
-        CommonHeaderAnswer::Good(header, _) => common_header::write_bmp_common_header(header, out),
+        CommonHeaderAnswer::Good(header, _) => common_header_writer::write_bmp_common_header(
+            header,
+            out,
+        ),
     }
 }
 
 fn rewrite_per_peer(s: &[u8], out: &mut [u8]) -> WriteAnswer {
     let answer = per_peer_header::parse_per_peer_header(s);
     let header = answer.header;
-    per_peer_header::write_per_peer_header(header, out)
+    per_peer_header_writer::write_per_peer_header(header, out)
 }
 
 fn rewrite_openbmp(s: &[u8], out: &mut [u8]) -> WriteAnswer {
     let answer = openbmp::parse_openbmp_header(s);
     let header = answer.header;
-    openbmp::write_openbmp_header(header, s, out)
+    openbmp_writer::write_openbmp_header(header, s, out)
 }
 
 fn rewrite_peer_down(s: &[u8], out: &mut [u8]) -> WriteAnswer {
     match peer_down_notification::parse_peer_down_notification(s) {
         PeerDownAnswer::Refused(refusal) => WriteAnswer::Refused(refusal),
         PeerDownAnswer::Good(notification, _) => {
-            peer_down_notification::write_peer_down_notification(notification, s, out)
+            peer_down_notification_writer::write_peer_down_notification(notification, s, out)
         }
     }
 }
@@ -62,7 +65,7 @@ fn rewrite_monitoring(arguments: Arguments, s: &[u8], out: &mut [u8]) -> WriteAn
     match route_monitoring::parse_route_monitoring(s, asn_len, peer_type) {
         RouteMonitoringAnswer::Refused(refusal) => WriteAnswer::Refused(refusal),
         RouteMonitoringAnswer::Good(message, _, _) => {
-            route_monitoring::write_route_monitoring(message, s, out)
+            route_monitoring_writer::write_route_monitoring(message, s, out)
         }
     }
 }
@@ -70,25 +73,25 @@ fn rewrite_monitoring(arguments: Arguments, s: &[u8], out: &mut [u8]) -> WriteAn
 fn rewrite_stats(s: &[u8], out: &mut [u8]) -> WriteAnswer {
     let answer = stats_report::parse_stats_report(s);
     let report = answer.report;
-    stats_report::write_stats_report(report, s, out)
+    stats_report_writer::write_stats_report(report, s, out)
 }
 
 fn rewrite_initiation(s: &[u8], out: &mut [u8]) -> WriteAnswer {
     let answer = initiation_message::parse_initiation_message(s);
     let message = answer.message;
-    initiation_message::write_initiation_message(message, s, out)
+    initiation_message_writer::write_initiation_message(message, s, out)
 }
 
 fn rewrite_termination(s: &[u8], out: &mut [u8]) -> WriteAnswer {
     let answer = termination_message::parse_termination_message(s);
     let message = answer.message;
-    termination_message::write_termination_message(message, s, out)
+    termination_message_writer::write_termination_message(message, s, out)
 }
 
 fn rewrite_mirroring(s: &[u8], out: &mut [u8]) -> WriteAnswer {
     let answer = route_mirroring::parse_route_mirroring(s);
     let message = answer.message;
-    route_mirroring::write_route_mirroring(message, s, out)
+    route_mirroring_writer::write_route_mirroring(message, s, out)
 }
 
 fn rewrite_peer_up(arguments: Arguments, s: &[u8], out: &mut [u8]) -> WriteAnswer {
@@ -96,5 +99,5 @@ fn rewrite_peer_up(arguments: Arguments, s: &[u8], out: &mut [u8]) -> WriteAnswe
     let peer_type = arguments.peer_type;
     let answer = peer_up_notification::parse_peer_up_notification(s, afi, peer_type);
     let message = answer.message;
-    peer_up_notification::write_peer_up_notification(message, s, out)
+    peer_up_notification_writer::write_peer_up_notification(message, s, out)
 }

@@ -2,17 +2,15 @@
 use mathlib.Core.Path.{_≡_, refl, sym, ap, _∙_}
 use mathlib.Core.Bool.{Bool, true, false}
 use mathlib.Core.List.{List, _++_}
-use Prim.Native.Nat.{ℕ, suc, _+_, _-_, _≤_}
+use Prim.Native.Nat.{ℕ, suc, _+_, _≤_}
 use native.Mathlib.Omega.{arith}
-use borrow.Author.Tests.{ltb-false, le-ltb, leb-true, le-leb}
-use lib.Dec.{ltb, leb}
+use borrow.Author.Tests.{ltb-false, le-ltb}
+use lib.Dec.{ltb}
 use lib.ListN.{length, take, drop, length-append}
 use lib.Seq.{take-at, drop-at, drop-drop}
 use Rattle.wire.specs.Number as Number
 use Rattle.wire.specs.Bytes.{pick, be, value, numAt, Bytes}
 use Rattle.wire.specs.Refusal.{refusal, cutAt}
-use Rattle.wire.specs.View.{inside}
-use Rattle.wire.specs.declared.View.{View}
 use Rattle.wire.proofs.Bytes.{value-be, num-lt, num-back, part-back, bytes-drop}
 use Rattle.wire.proofs.Views.{octets-part}
 use Rattle.models.specs.declared.AsnLength.{AsnLength}
@@ -20,7 +18,6 @@ use Rattle.peer_type.specs.declared.BmpPeerType.{BmpPeerType}
 use Rattle.route_monitoring.specs.Grammar.{Reading, join, Good}
 use Rattle.route_monitoring.specs.Shown.{goodOf, refusalOf}
 use Rattle.route_monitoring.specs.Read.{partsOf, readRouteMonitoring}
-use Rattle.route_monitoring.specs.Write.{viewWritable}
 use Rattle.route_monitoring.specs.declared.RouteMonitoringAnswer.{RouteMonitoringAnswer}
 
 -- ---- joined, then taken apart
@@ -80,18 +77,3 @@ module _ (s : List ℕ) (width : AsnLength) (t : BmpPeerType) where
 
   pub shows-all : Accepted s → readRouteMonitoring width t s ≡ goodOf width t (length s)
   shows-all a = rw (le-ltb Number.limit (length s) (a .short), le-ltb (length s) 19 (a .long))
-
--- ---- what `viewWritable` asks
-pub record Fine (v : View) (room : ℕ) : Type 0 where
-  pub has-header : 19 ≤ v .length
-  pub within : v .place + v .length ≤ room
-
-pub fine-of : (v : View) (room : ℕ) → viewWritable v room ≡ true → Fine v room
-fine-of v room e = go (leb 19 (v .length)) refl e
-  where
-    go : (b : Bool) → leb 19 (v .length) ≡ b → pick b (inside room v) false ≡ true → Fine v room
-    go true h q = record { has-header = leb-true 19 (v .length) h; within = leb-true (v .place + v .length) room q }
-    go false h q = let z : _≡_ {A = ℕ} 0 1 = cc in absurd (omega arith)
-
-pub fine-from : (v : View) (room : ℕ) → Fine v room → viewWritable v room ≡ true
-fine-from v room f = rw (le-leb 19 (v .length) (f .has-header)) (le-leb (v .place + v .length) room (f .within))

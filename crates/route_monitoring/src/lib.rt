@@ -3,13 +3,9 @@ use models::AsnLength;
 use peer_type::BmpPeerType;
 use wire::Refusal;
 use wire::View;
-use writing::WriteAnswer;
 ghost use mathlib.Core.Path.{_≡_};
-ghost use lib.ListN.{length};
-ghost use Rattle.writing.specs.Write.{writeAnswer, written};
 ghost use Rattle.route_monitoring.specs.Warnings.{warningsOf};
 ghost use Rattle.route_monitoring.specs.Read.{readRouteMonitoring};
-ghost use Rattle.route_monitoring.specs.Write.{viewWritable, writable, bytesOf};
 
 pub struct RouteMonitoring {
     pub bgp_message: View,
@@ -22,7 +18,7 @@ pub enum RouteMonitoringAnswer {
 }
 
 // The fewest bytes of a BGP message: its header (RFC 4271, section 4.1).
-const BGP_HEADER: usize = 19;
+pub const BGP_HEADER: usize = 19;
 
 // A warning's bit (docs/RULES.md, "Warnings"): the AS numbers of a Loc-RIB are said to have 16 bits.
 const SHORT_AS: u32 = 4;
@@ -63,31 +59,4 @@ fn warnings_of(asn_len: AsnLength, peer_type: BmpPeerType) -> u32
         AsnLength::Bits16 => SHORT_AS,
         AsnLength::Bits32 => 0,
     }
-}
-
-pub fn write_route_monitoring(
-    message: RouteMonitoring,
-    buffer: &[u8],
-    out: &mut [u8],
-) -> WriteAnswer
-    ensures { λ r. ⌜ r ≡ writeAnswer (writable message (length (now (buffer .entry)))) (length (bytesOf message (now (buffer .entry)))) (length (now (out .entry))) ⌝ }
-    ensures { λ _. ⌜ now (out .exit) ≡ written (writable message (length (now (buffer .entry)))) (bytesOf message (now (buffer .entry))) (now (out .entry)) ⌝ }
-{
-    let view = message.bgp_message;
-    let part = view.part(buffer);
-    let answer = writing::write_answer(is_writable(view, buffer.len()), part.len(), out.len());
-    let WriteAnswer::Written(_) = answer else {
-        return answer;
-    };
-    writing::put_bytes(out, 0, part);
-    answer
-}
-
-fn is_writable(view: View, room: usize) -> bool
-    ensures { λ r. ⌜ r ≡ viewWritable view room ⌝ }
-{
-    if BGP_HEADER <= view.length {
-        return view.is_inside(room);
-    }
-    false
 }

@@ -13,7 +13,7 @@ use Rattle.initiation_message.specs.declared.InitiationAnswer.{InitiationAnswer
 use Rattle.peer_down_notification.specs.Grammar.{Data, absent, present}
 use Rattle.peer_down_notification.specs.Shown as PeerDown
 use Rattle.peer_down_notification.specs.Read.{readPeerDown}
-use Rattle.peer_down_notification.specs.Write.{dataOf}
+use Rattle.peer_down_notification.specs.Shown.{dataOf}
 use Rattle.peer_down_notification.specs.declared.PeerDownAnswer.{PeerDownAnswer}
 use Rattle.route_mirroring.specs.Shown as Mirroring
 use Rattle.route_mirroring.specs.Read.{readMirroring}
@@ -28,7 +28,7 @@ use Rattle.termination_message.specs.declared.TerminationTlv.{TerminationTlv}
 use Rattle.termination_message.specs.declared.TerminationAnswer.{TerminationAnswer}
 use Rattle.stats_type.specs.Shown as StatsType
 use Rattle.stats_data.specs.Grammar.{Value, counter, gauge, afi-safi-gauge, raw}
-use Rattle.stats_data.specs.Write.{valueIn}
+use Rattle.stats_data.specs.Shown.{valueIn}
 use Rattle.stats_report.specs.Read.{readStats}
 use Rattle.stats_report.specs.declared.StatCounter.{StatCounter}
 use Rattle.stats_report.specs.declared.StatsAnswer.{StatsAnswer}

@@ -1,3 +1,2 @@
 pub mod Values
-pub mod Written
 pub mod Promises

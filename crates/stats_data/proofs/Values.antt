@@ -16,9 +16,8 @@ use Rattle.wire.specs.declared.Refusal.{Refusal}
 use Rattle.cursor.specs.declared.Cursor.{Cursor}
 use Rattle.wire.proofs.Bytes.{value-be, num-lt, num-back, num-last, num-part}
 use Rattle.stats_data.specs.Grammar.{Value, counter, gauge, afi-safi-gauge, raw, valueBytes, GoodValue}
-use Rattle.stats_data.specs.Shown.{dataAt}
+use Rattle.stats_data.specs.Shown.{dataAt, valueIn}
 use Rattle.stats_data.specs.Read.{valueOf, wholeData, readData}
-use Rattle.stats_data.specs.Write.{valueIn}
 use Rattle.stats_data.specs.declared.StatsData.{StatsData}
 use Rattle.stats_data.specs.declared.StatsData.the-variants.{Counter, Gauge, AfiSafiGauge, Unknown}
 use Rattle.stats_data.specs.declared.ReadData.{ReadData}

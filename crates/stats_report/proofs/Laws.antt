@@ -1,12 +1,12 @@
 -- What the walk kit asks of a Statistics body. Assumes nothing.
 use mathlib.Core.Path.{_≡_, sym, ap, _∙_, subst}
-use mathlib.Core.List.{List}
+use mathlib.Core.List.{List, _++_}
 use Prim.Native.Nat.{ℕ, suc, _+_, _-_, _≤_, _<_}
 use native.Mathlib.Omega.{arith}
 use borrow.Author.Tests.{le-ltb, le-leb, lt-leb}
 use lib.ListN.{length, drop, set}
 use Rattle.wire.specs.Number as Number
-use Rattle.wire.specs.Bytes.{numAt}
+use Rattle.wire.specs.Bytes.{numAt, be}
 use Rattle.wire.specs.Refusal.{refusal, cutAt}
 use Rattle.wire.specs.Tlv.{Tlv, putTlv, GoodTlv}
 use Rattle.wire.specs.TlvAt.{tlvOf}
@@ -97,3 +97,8 @@ module _ (s : List ℕ) (short : length s ≤ Number.limit) where
       let n : numAt 4 s 0 ≡ total = sym (w .number) in
       let p : 4 ≡ c .at = omega (arith, w .next) in
       rw (le-ltb Number.limit (length s) short, le-leb 4 (length s - 0) (w .left)) (λ i. answer (n i) (readFrom kit (n i) (p i) s))
+
+-- what stands behind the count
+pub behind : (n k : ℕ) (x y : List ℕ) → be 4 n ++ x ≡ be 4 k ++ y → x ≡ y
+unfolding be
+behind n k x y e = ap (drop 4) e

@@ -5,13 +5,13 @@ use Prim.Native.Nat.{ℕ, _≤_}
 use native.Mathlib.Omega.{arith}
 use lib.ListN.{length, drop}
 use Rattle.wire.specs.Number as Number
-use Rattle.wire.specs.Bytes.{be, value, numAt}
+use Rattle.wire.specs.Bytes.{be, numAt}
 use Rattle.cursor.specs.Read.{cursor}
 use Rattle.wire.proofs.Bytes.{value-be}
 use Rattle.cursor.proofs.Reading.{Was}
 use Rattle.wire.proofs.Tlv.{tlv-viewed}
 use Rattle.wire.proofs.Walk as Walk
-use Rattle.stats_data.specs.Write.{valueIn}
+use Rattle.stats_data.specs.Shown.{valueIn}
 use Rattle.stats_data.proofs.Values.{value-seen}
 use Rattle.stats_report.specs.Grammar.{Stat, asTlv, putStat, GoodStat, Reading, join, Good}
 use Rattle.stats_report.specs.Shown.{entry, shown}

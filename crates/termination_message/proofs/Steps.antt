@@ -24,7 +24,6 @@ use Rattle.termination_message.specs.Grammar.{Tlv, sizeOf}
 use Rattle.termination_message.specs.Shown.{stringEntry, reasonEntry, entry}
 use Rattle.termination_message.specs.Read.{stringIn, reasonIn, step, told, stepAt}
 use Rattle.termination_message.specs.declared.TerminationTlv.{TerminationTlv}
-use Rattle.termination_message.specs.declared.Step.{Step}
 use Rattle.termination_message.specs.declared.Step.the-variants.{Stop, Bad, Whole}
 
 -- bytes that begin with a TLV of this type, whose length does not exceed what follows it

@@ -4,12 +4,11 @@ use mathlib.Core.Path.{_≡_, refl, sym, ap, _∙_}
 use Prim.Native.Nat.{_-_, _≤_}
 use lib.ListN.{drop}
 use Rattle.writing.proofs.Table.{here, done}
-use Rattle.peer_up_notification.specs.Shown.{zeroTlv}
+use Rattle.peer_up_notification.specs.Shown.{zeroTlv, kept}
 use Rattle.peer_up_notification.specs.Read.{headsIn, namesOf}
-use Rattle.peer_up_notification.specs.Write.{kept}
 use Rattle.peer_up_notification.specs.declared.PeerUpNotificationTlv.{PeerUpNotificationTlv}
 use Rattle.peer_up_notification.proofs.Names.{alsoOf, also-none, heard-here}
-use Rattle.peer_up_notification.proofs.Written.{table-long}
+use Rattle.peer_up_notification.proofs.Laws.{table-long}
 use mathlib.Core.List.{List}
 use Rattle.peer_up_notification.proofs.names_in.Statement.{statement}
 use Rattle.peer_up_notification.proofs.names_in.Tie as tie

@@ -1,0 +1,40 @@
+// Writing the common header of a BMP message (RFC 7854, section 4.1).
+use common_header::BmpCommonHeader;
+use writing::WriteAnswer;
+ghost use mathlib.Core.Path.{_≡_};
+ghost use Prim.Native.Nat.{_≤_};
+ghost use lib.ListN.{length};
+ghost use lib.Seq.{sets};
+ghost use Rattle.writing.specs.Write.{writeAnswer, written};
+ghost use Rattle.common_header_writer.specs.Write.{writable, bytesOf};
+
+pub fn write_bmp_common_header(header: BmpCommonHeader, out: &mut [u8]) -> WriteAnswer
+    ensures { λ r. ⌜ r ≡ writeAnswer (writable header) (length (bytesOf header)) (length (now (out .entry))) ⌝ }
+    ensures { λ _. ⌜ now (out .exit) ≡ written (writable header) (bytesOf header) (now (out .entry)) ⌝ }
+{
+    let answer = writing::write_answer(is_writable(header), 6, out.len());
+    let WriteAnswer::Written(_) = answer else {
+        return answer;
+    };
+    put_header(header, out);
+    answer
+}
+
+fn is_writable(header: BmpCommonHeader) -> bool
+    ensures { λ r. ⌜ r ≡ writable header ⌝ }
+{
+    if header.version != 3 {
+        return false;
+    }
+    true
+}
+
+fn put_header(header: BmpCommonHeader, out: &mut [u8])
+    requires { ⌜ 6 ≤ length (now out) ⌝ }
+    ensures { λ _. ⌜ now (out .exit) ≡ sets (now (out .entry)) 0 (bytesOf header) ⌝ }
+{
+    let msg_type = header.msg_type;
+    put_numbers::put_u8(out, 0, header.version);
+    put_numbers::put_u32(out, 1, header.msg_len);
+    put_numbers::put_u8(out, 5, common_header::kind_of(msg_type));
+}

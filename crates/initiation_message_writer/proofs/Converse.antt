@@ -1,0 +1,71 @@
+-- No record is refused that would be read back as itself, where its views lie inside the buffer. Assumes nothing.
+use mathlib.Core.Path.{_≡_, refl, sym, ap, _∙_, subst}
+use mathlib.Core.Bool.{true, false}
+use mathlib.Core.List.{List, [], _∷_}
+use Prim.Native.Nat.{ℕ, suc, _+_, _-_, _≤_, _<_}
+use native.Mathlib.Omega.{arith}
+use borrow.Author.Tests.{le-ltb}
+use lib.ListN.{length, getD, replicate, length-append}
+use Rattle.wire.specs.Bytes.{be}
+use Rattle.wire.specs.Parts.{joinAll, EachGood, AllAt}
+use Rattle.wire.specs.Tlv.{Tlv, putTlv, sizeOf, putTail}
+use Rattle.wire.specs.Exactly.{Shows}
+use Rattle.initiation_message.specs.Read.{reader}
+use Rattle.writing.specs.Table.{parts, joined, allOk}
+use Rattle.writing.proofs.Table.{kept-each}
+use Rattle.writing.proofs.Trip.{table-back}
+use Rattle.tlv_table.proofs.Written.{good-fits}
+use Rattle.tlv_table.proofs.Translated.{no-tail-translated}
+use Rattle.initiation_message.specs.Grammar.{Reading, join, ReadTlv}
+use Rattle.initiation_message.specs.Shown.{kindOf, zeroTlv, places, entry}
+use Rattle.initiation_message_writer.specs.Write.{valueOf, partOf, writer, kept, bytesOf, writable, entryOf, SameTlv, Same}
+use Rattle.initiation_message.specs.declared.InitiationTlv.{InitiationTlv}
+use Rattle.initiation_message.specs.declared.InitiationMessage.{InitiationMessage}
+use Rattle.initiation_message.specs.declared.InitiationAnswer.{InitiationAnswer}
+use Rattle.initiation_message_writer.proofs.Written.{fine-from, translates}
+use Rattle.initiation_message.proofs.Shows.{ViewAt}
+use Rattle.initiation_message_writer.proofs.Trip.{kindOf-typeOf, ReadsBack}
+
+abbrev pub Inside : List ℕ → InitiationTlv → Type 0
+Inside b t = t .info .place + t .info .length ≤ length b
+
+-- entries whose items are good are writable
+followed : (b : List ℕ) (t : InitiationTlv) (l : List InitiationTlv) → ReadTlv (partOf b t) (joined writer b l) → 0 < t .«info_len» + length l
+unfolding be
+followed b t [] g = omega (arith, g .more-than-four, g .well-formed .size-is, length-append (valueOf b t) [])
+followed b t (u ∷ l) g = omega arith
+
+all-fine : (b : List ℕ) (l : List InitiationTlv) → EachGood putTlv ReadTlv (parts writer b l) []
+    → ((i : ℕ) → i < length l → Inside b (getD l i zeroTlv)) → allOk writer (length b) l ≡ true
+all-fine b [] g h = refl
+all-fine b (t ∷ l) g h =
+    rw (fine-from (length b) (length l) t (record {
+      fits = good-fits _ _ (t .info) b (g .0 .well-formed) (h 0 (omega arith));
+      not-last-empty = followed b t l (g .0);
+    }))
+    (all-fine b l (g .1) (λ i e. h (suc i) (omega arith)))
+
+-- an item that is shown as an entry is that entry's
+one-part : (b s : List ℕ) (at : ℕ) (x : Tlv) (t : InitiationTlv) → ViewAt s at x → SameTlv t b (entry at x) s → x ≡ partOf b t
+one-part b s at x t v e =
+    let kind-is : x .kind ≡ kindOf (t .«info_type») = sym (e .kind-same ∙ kindOf-typeOf (x .kind)) in
+    let value-is : x .value ≡ valueOf b t = sym (e .bytes-same ∙ v) in
+    λ i. record { kind = kind-is i; size = sym (e .len-same) i; value = value-is i }
+
+pub writable-from : (m : InitiationMessage) (b : List ℕ) → length (m .tlvs) ≡ places
+    → ((i : ℕ) → i < m .count → Inside b (getD (m .tlvs) i zeroTlv))
+    → (q : Reading) → Shows reader (bytesOf m b) q → AllAt sizeOf (ViewAt (join q)) 0 (q .tlvs)
+    → ReadsBack m b (bytesOf m b) → writable m (length b) ≡ true
+writable-from m b long inside q x view-so r =
+    let s = bytesOf m b in
+    let same = subst (λ (a : InitiationAnswer). Same m b (a .message) s) (x .shown-so) (r .same) in
+    let few : m .count ≤ places = omega (arith, same .count-same, x .reading .fits) in
+    let v : AllAt sizeOf (ViewAt s) 0 (q .tlvs) = subst (λ (z : List ℕ). AllAt sizeOf (ViewAt z) 0 (q .tlvs)) (x .reading .joined) view-so in
+    let each : q .tlvs ≡ parts writer b (kept m) =
+    table-back writer sizeOf entry (ViewAt s) b (λ t u. SameTlv t b u s) zeroTlv (λ at x t. one-part b s at x t)
+    (replicate (places - length (q .tlvs)) zeroTlv) (m .tlvs) (m .count) (q .tlvs) (omega (arith, long, few)) (same .count-same) v (same .tlv-same) in
+    let z : putTail (q .tail) ≡ [] =
+    no-tail-translated writer 0 false entryOf translates b (kept m) (putTail (q .tail)) (ap (λ (l : List Tlv). joinAll putTlv l (putTail (q .tail))) (sym each) ∙ x .reading .joined) in
+    let good : EachGood putTlv ReadTlv (parts writer b (kept m)) [] =
+    subst (λ (l : List Tlv). EachGood putTlv ReadTlv l []) each (subst (EachGood putTlv ReadTlv (q .tlvs)) z (x .reading .is-good .each)) in
+    rw (le-ltb places (m .count) few) (all-fine b (kept m) good (kept-each (λ i. Inside b) (m .tlvs) (m .count) zeroTlv inside))

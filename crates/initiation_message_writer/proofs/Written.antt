@@ -1,0 +1,41 @@
+-- What the writing kit asks of an Initiation body. Assumes nothing.
+use mathlib.Core.Path.{_≡_, refl, sym, _∙_}
+use mathlib.Core.Bool.{true, false}
+use mathlib.Core.List.{List}
+use Prim.Native.Nat.{ℕ}
+use native.Mathlib.Omega.{arith}
+use borrow.Author.Tests.{le-leb}
+use lib.ListN.{length, length-map}
+use mir.Val.{Val}
+use denote.Laws.{Is}
+use denote.Struct.Laws as Struct
+use Rattle.tlv_table.specs.Tlvs.{entryWritable}
+use Rattle.tlv_table.proofs.Walked.{WalkedTlvFits, walked-of, walked-from}
+use Rattle.tlv_table.proofs.Translated.{Translates}
+use Rattle.initiation_message.specs.Shown.{kindOf, places}
+use Rattle.initiation_message_writer.specs.Write.{tlvWritable, writer, entryOf}
+use Rattle.initiation_message.specs.declared.InitiationTlv.{InitiationTlv}
+use Rattle.initiation_message.specs.declared.InitiationMessage.{InitiationMessage}
+use Rattle.initiation_message.proofs.InitiationMessage as Message
+use Rattle.initiation_message.proofs.InitiationMessage.Laws as MessageLaws
+
+-- how long the table of a message is, from what owning one tells
+pub table-long : (m : InitiationMessage) (vs : List Val) → Is Message.the-row m vs → length (m .tlvs) ≡ places
+table-long m vs is = sym (length-map (m .tlvs) _) ∙ Struct.owed Message.the-type MessageLaws.the-laws m vs is .0 .1 .0 .1
+
+-- ---- what `tlvWritable` asks
+abbrev pub Fine : ℕ → ℕ → InitiationTlv → Type 0
+Fine room after t = WalkedTlvFits (kindOf (t .«info_type»)) (t .«info_len») (t .info) room after
+
+pub fine-of : (room after : ℕ) (t : InitiationTlv) → tlvWritable room after t ≡ true → Fine room after t
+unfolding tlvWritable
+fine-of room after t e = walked-of _ _ _ _ _ e
+
+pub fine-from : (room after : ℕ) (t : InitiationTlv) → Fine room after t → tlvWritable room after t ≡ true
+unfolding tlvWritable
+fine-from room after t f = walked-from _ _ _ _ _ f
+
+-- ---- what is written for one TLV is that TLV
+pub translates : Translates writer 0 false entryOf
+unfolding tlvWritable entryWritable
+translates = record { ok-same = λ room n t. rw (le-leb 0 (t .«info_len») (omega arith)); size-same = λ t. refl; put-same = λ b t r. refl }

@@ -1,0 +1,18 @@
+use borrow.Author.Needs.{needs}
+use Rattle.peer_down_notification_writer.proofs.view_of.Statement.{statement}
+use Rattle.peer_down_notification_writer.proofs.view_of.Tie as tie
+
+enum-told : tie.Need-enum-told
+enum-told c = search needs
+
+enum-known-data : tie.Need-enum-known-data
+enum-known-data c = search needs
+
+returns : tie.Need-returns
+returns c = rw (c .enum-told .given .1)
+
+returns-2 : tie.Need-returns-2
+returns-2 c = search needs
+
+pub view-of-spec : {M : Type 1} → statement M
+view-of-spec = tie.close (tie.spec enum-told enum-known-data returns returns-2)

@@ -1,0 +1,142 @@
+-- No record is refused that would be read back as itself, where its views lie inside the buffer. Assumes nothing.
+use mathlib.Core.Path.{_≡_, refl, sym, ap, _∙_, subst}
+use mathlib.Core.Bool.{true, _&&_, and-eq-true-iff}
+use mathlib.Core.List.{List, [], _∷_}
+use Prim.Native.Nat.{ℕ, suc, _+_, _-_, _≤_, _<_}
+use native.Mathlib.Omega.{arith}
+use borrow.Author.Tests.{le-ltb}
+use lib.ListN.{length, drop, getD, replicate, length-replicate}
+use lib.Seq.{drop-at, length-take-le}
+use Rattle.wire.specs.Bytes.{Bytes}
+use Rattle.wire.specs.Parts.{EachGood}
+use Rattle.wire.specs.Tlv.{Tlv, putTlv, sizeOf}
+use Rattle.wire.specs.View.{viewed}
+use Rattle.wire.specs.declared.View.{View}
+use Rattle.wire.proofs.Bytes.{bytes-append, bytes-be, bytes-take, bytes-drop, num-lt}
+use Rattle.wire.proofs.Views.{bytes-viewed, octets-zeros}
+use Rattle.wire.specs.Exactly.{Shows}
+use Rattle.writing.specs.Table.{parts, allOk}
+use Rattle.writing.proofs.Table.{kept-each}
+use Rattle.writing.proofs.Trip.{parts-back}
+use Rattle.tlv_table.proofs.Written.{view-long, good-fits}
+use Rattle.tlv_table.proofs.Translated.{bytes-translated}
+use Rattle.layout.specs.Address.{shownIp}
+use Rattle.models.specs.declared.IpAddr.{IpAddr}
+use Rattle.models.proofs.Promises.{equals-is-equality}
+use Rattle.peer_type.specs.declared.BmpPeerType.{BmpPeerType}
+use Rattle.peer_up_notification.specs.Grammar.{messageBytes, ReadTlv, skippedFor, Reading, join}
+use Rattle.peer_up_notification.specs.Shown.{kindOf, zeroTlv, places, entry, tlvsAt, shownAddress, shown, kept}
+use Rattle.peer_up_notification.specs.Read.{reader, openOf}
+use Rattle.peer_up_notification_writer.specs.Write.{partOf, addressWritable, openWritable, writer, bytesOf, tlvsWritable, writable, entryOf, Typed, SameTlv, Same}
+use Rattle.peer_up_notification.specs.declared.PeerUpNotificationTlv.{PeerUpNotificationTlv}
+use Rattle.peer_up_notification.specs.declared.PeerUpNotification.{PeerUpNotification}
+use Rattle.peer_up_notification.specs.declared.PeerUpAnswer.{PeerUpAnswer}
+use Rattle.peer_up_notification.proofs.Address.{address-shown}
+use Rattle.peer_up_notification.proofs.Names.{kindOf-typeOf}
+use Rattle.peer_up_notification.proofs.Opens.{OneMessage, one-message}
+use Rattle.peer_up_notification_writer.proofs.Written.{fine-from, translates, open-from}
+use Rattle.peer_up_notification.proofs.Shows.{ViewAt, ShowsParts}
+use Rattle.peer_up_notification_writer.proofs.Trip.{ReadsBack}
+
+-- what the reader does not ask of a record, and the writer does: its views lie inside the buffer
+abbrev Within : List ℕ → View → Type 0
+Within b v = v .place + v .length ≤ length b
+
+pub record Inside (m : PeerUpNotification) (b : List ℕ) : Type 0 where
+  pub sent-inside : Within b (m .«sent_open»)
+  pub received-inside : Within b (m .«received_open»)
+  pub tlvs-inside : (i : ℕ) → i < m .count → Within b (getD (m .tlvs) i zeroTlv .«info_value»)
+
+-- a view that shows a message is writable
+fine-open : {b : List ℕ} → Bytes b → (v : View) → Within b v → OneMessage (viewed b v) → openWritable b v ≡ true
+fine-open {b} p v inside o =
+    let n = view-long b v inside in
+    let small = num-lt 2 16 (o .are-bytes) in
+    open-from b v (record {
+      within = inside;
+      has-header = omega (arith, n, o .has-header);
+      size-fits = omega (arith, n, small, o .size-is);
+      size-is = o .size-is ∙ n;
+    })
+
+-- entries whose items are good are writable, whatever follows them
+all-fine : (b : List ℕ) (l : List PeerUpNotificationTlv) (z : List ℕ) → EachGood putTlv ReadTlv (parts writer b l) z
+    → ((i : ℕ) → i < length l → Within b (getD l i zeroTlv .«info_value»)) → allOk writer (length b) l ≡ true
+all-fine b [] z g h = refl
+all-fine b (t ∷ l) z g h =
+    rw (fine-from (length b) t (good-fits _ _ (t .«info_value») b (g .0) (h 0 (omega arith))))
+    (all-fine b l z (g .1) (λ i e. h (suc i) (omega arith)))
+
+-- an item that is shown as an entry is that entry's
+one-part : (b s : List ℕ) (at : ℕ) (x : Tlv) (t : PeerUpNotificationTlv) → ViewAt s at x → SameTlv t b (entry at x) s → x ≡ partOf b t
+one-part b s at x t v e =
+    let kind-is : x .kind ≡ kindOf (t .«info_type») = sym (e .kind-same ∙ kindOf-typeOf (x .kind)) in
+    let value-is = sym (e .bytes-same ∙ v) in
+    λ i. record { kind = kind-is i; size = sym (e .len-same) i; value = value-is i }
+
+-- ---- what would be written are bytes
+bytes-open : {x : List ℕ} → Bytes x → Bytes (messageBytes (openOf x))
+bytes-open p = bytes-append (bytes-take 16 p) (bytes-append (bytes-be 2 _) (bytes-drop 18 p))
+
+pub bytes-written : (m : PeerUpNotification) (b : List ℕ) → Bytes b → Typed m → Bytes (bytesOf m b)
+bytes-written m b p t =
+    let k = skippedFor (m .«local_addr» .afi) in
+    bytes-append (octets-zeros k .are-bytes)
+    (bytes-append (bytes-drop k (t .octets .are-bytes))
+    (bytes-append (bytes-be 2 (m .«local_port»))
+    (bytes-append (bytes-be 2 (m .«remote_port»))
+    (bytes-append (bytes-open (bytes-viewed b (m .«sent_open») p))
+    (bytes-append (bytes-open (bytes-viewed b (m .«received_open») p)) (bytes-translated writer 0 true entryOf translates b p (kept m)))))))
+
+-- ---- the whole record
+module _ (peer : BmpPeerType) (m : PeerUpNotification) (b : List ℕ) (p : Bytes b) (t : Typed m) (inside : Inside m b) (q : Reading)
+    (x : Shows (reader (m .«local_addr» .afi) peer) (bytesOf m b) q) (v : ShowsParts (bytesOf m b) (shown (m .«local_addr» .afi) peer q) q)
+    (same : Same m b (shown (m .«local_addr» .afi) peer q .message) (bytesOf m b)) where
+  address-fits : addressWritable (m .«local_addr») ≡ true
+  address-fits =
+      let a = m .«local_addr» in
+      let k = skippedFor (a .afi) in
+      let octets : drop k (a .octets) ≡ q .address =
+      ap (λ (y : IpAddr). drop k (y .octets)) (same .address-same) ∙ drop-at (replicate k 0) (q .address) k (length-replicate k 0) in
+      equals-is-equality (shownIp (a .afi) (a .octets)) a .1
+      (address-shown (a .afi) (a .octets) ∙ ap (shownAddress (a .afi)) octets ∙ sym (same .address-same))
+
+  sent-fits : openWritable b (m .«sent_open») ≡ true
+  sent-fits =
+      fine-open p (m .«sent_open») (inside .sent-inside)
+      (subst OneMessage (sym (same .sent-same ∙ v .sent-shown)) (one-message (q .sentOpen) (x .reading .is-good .sent-good)))
+
+  received-fits : openWritable b (m .«received_open») ≡ true
+  received-fits =
+      fine-open p (m .«received_open») (inside .received-inside)
+      (subst OneMessage (sym (same .received-same ∙ v .received-shown)) (one-message (q .receivedOpen) (x .reading .is-good .received-good)))
+
+  tlvs-fit : tlvsWritable m (length b) ≡ true
+  tlvs-fit =
+      let s = bytesOf m b in
+      let n : m .count ≡ length (q .tlvs) = same .count-same in
+      let few : m .count ≤ places = omega (arith, n, x .reading .fits) in
+      let k : length (kept m) ≡ m .count = length-take-le (m .count) (m .tlvs) (omega (arith, t .table-long, few)) in
+      let each : q .tlvs ≡ parts writer b (kept m) =
+      parts-back writer sizeOf entry (ViewAt s) b (λ t u. SameTlv t b u s) zeroTlv (λ at x t. one-part b s at x t)
+      (replicate (places - length (q .tlvs)) zeroTlv) (kept m) (q .tlvs) (tlvsAt q) (k ∙ n) (v .tlvs-shown)
+      (kept-each (λ i t. SameTlv t b (getD (shown (m .«local_addr» .afi) peer q .message .tlvs) i zeroTlv) s) (m .tlvs) (m .count) zeroTlv (same .tlv-same)) in
+      rw (le-ltb places (m .count) few) (all-fine b (kept m) (q .tail)
+      (subst (λ (l : List Tlv). EachGood putTlv ReadTlv l (q .tail)) each (x .reading .is-good .each))
+      (kept-each (λ i t. Within b (t .«info_value»)) (m .tlvs) (m .count) zeroTlv (inside .tlvs-inside)))
+
+  all-fits : writable m b ≡ true
+  all-fits =
+      let sent = openWritable b (m .«sent_open») in
+      let received = openWritable b (m .«received_open») in
+      let tlvs = tlvsWritable m (length b) in
+      and-eq-true-iff (addressWritable (m .«local_addr»)) (sent && (received && tlvs)) .1
+      (address-fits, and-eq-true-iff sent (received && tlvs) .1 (sent-fits, and-eq-true-iff received tlvs .1 (received-fits, tlvs-fit)))
+
+pub writable-from : (peer : BmpPeerType) (m : PeerUpNotification) (b : List ℕ) → Bytes b → Typed m → Inside m b → (q : Reading)
+    → Shows (reader (m .«local_addr» .afi) peer) (bytesOf m b) q → ShowsParts (join q) (shown (m .«local_addr» .afi) peer q) q
+    → ReadsBack peer m b (bytesOf m b) → writable m b ≡ true
+writable-from peer m b p t inside q x v r =
+    let afi = m .«local_addr» .afi in
+    all-fits peer m b p t inside q x (subst (λ (z : List ℕ). ShowsParts z (shown afi peer q) q) (x .reading .joined) v)
+    (subst (λ (a : PeerUpAnswer). Same m b (a .message) (bytesOf m b)) (x .shown-so) (r .same))

@@ -1,0 +1,87 @@
+-- What the writer writes: the reading of a record, by the grammar's own parts; which records are writable; when two are the same.
+use Prim.Native.Nat.{ℕ, _+_, _<_}
+use mathlib.Core.Path.{_≡_}
+use mathlib.Core.Bool.{Bool, true, false}
+use mathlib.Core.List.{List, [], map}
+use lib.ListN.{take, getD}
+use lib.Dec.{leb, ltb, eqb}
+use Rattle.wire.specs.Bytes.{pick}
+use Rattle.wire.specs.View.{viewed}
+use Rattle.writing.specs.Write.{tlvFits}
+use Rattle.writing.specs.Table.{Writer, parts, allOk}
+use Rattle.tlv_table.specs.declared.TlvValue.the-variants.{Part, Number}
+use Rattle.tlv_table.specs.declared.TlvEntry.{TlvEntry}
+use Rattle.tlv_table.specs.declared.TlvTable.{TlvTable}
+use Rattle.route_mirroring.specs.Grammar.{Tlv, bgpMessage, information, put, Reading, join}
+use Rattle.route_mirroring.specs.Shown.{codeOf, zeroTlv, places}
+use Rattle.route_mirroring.specs.declared.RouteMirroringValue.{RouteMirroringValue}
+use Rattle.route_mirroring.specs.declared.RouteMirroringValue.the-variants.{BgpMessage, Information}
+use Rattle.route_mirroring.specs.declared.RouteMirroringTlv.{RouteMirroringTlv}
+use Rattle.route_mirroring.specs.declared.RouteMirroring.{RouteMirroring}
+
+-- ---- the reading of a record whose views point into a buffer
+abbrev pub valuePart : List ℕ → ℕ → RouteMirroringValue → Tlv
+valuePart b size (BgpMessage v) = bgpMessage size (viewed b v)
+valuePart b size (Information i) = information size (codeOf i)
+
+abbrev pub partOf : List ℕ → RouteMirroringTlv → Tlv
+partOf b t = valuePart b (t .«info_len») (t .value)
+
+-- ---- a TLV is writable, by the buffer's length: a BGP message of at least 19 bytes that can be written from its view, or
+-- information of length 2
+abbrev pub valueWritable : ℕ → ℕ → RouteMirroringValue → Bool
+valueWritable room size (BgpMessage v) = pick (leb 19 size) (tlvFits 0 size v room) false
+valueWritable room size (Information i) = eqb size 2
+
+unfoldable pub tlvWritable : ℕ → RouteMirroringTlv → Bool
+tlvWritable room t = valueWritable room (t .«info_len») (t .value)
+
+abbrev pub writer : Writer
+writer =
+    record {
+      Entry = RouteMirroringTlv;
+      Item = Tlv;
+      part = partOf;
+      put = put;
+      ok = λ room after t. tlvWritable room t;
+      size = λ t. 4 + t .«info_len»;
+    }
+
+-- ---- the whole record: its entries below the count, and no tail
+abbrev pub kept : RouteMirroring → List RouteMirroringTlv
+kept m = take (m .count) (m .tlvs)
+
+abbrev pub readingOf : RouteMirroring → List ℕ → Reading
+readingOf m b = record { tlvs = parts writer b (kept m); tail = [] }
+
+abbrev pub bytesOf : RouteMirroring → List ℕ → List ℕ
+bytesOf m b = join (readingOf m b)
+
+abbrev pub writable : RouteMirroring → ℕ → Bool
+writable m room = pick (ltb places (m .count)) false (allOk writer room (kept m))
+
+-- ---- the table of TLVs that is written for a record
+abbrev pub valueEntry : ℕ → RouteMirroringValue → TlvEntry
+valueEntry size (BgpMessage v) = record { kind = 0; size = size; value = Part v }
+valueEntry size (Information i) = record { kind = 1; size = size; value = Number (codeOf i) }
+
+abbrev pub entryOf : RouteMirroringTlv → TlvEntry
+entryOf t = valueEntry (t .«info_len») (t .value)
+
+abbrev pub tableOf : RouteMirroring → TlvTable
+tableOf m = record { tlvs = map entryOf (m .tlvs); count = m .count; least = 19; «empty_last» = true }
+
+-- ---- two records are the same: their numbers below the count, and the bytes that their views show, each in its own buffer
+abbrev pub SameValue : RouteMirroringValue → List ℕ → RouteMirroringValue → List ℕ → Type 0
+SameValue (BgpMessage v) b (BgpMessage u) s = viewed b v ≡ viewed s u
+SameValue (BgpMessage v) b (Information j) s = ⊥
+SameValue (Information i) b (BgpMessage u) s = ⊥
+SameValue (Information i) b (Information j) s = codeOf i ≡ codeOf j
+
+pub record SameTlv (t : RouteMirroringTlv) (b : List ℕ) (u : RouteMirroringTlv) (s : List ℕ) : Type 0 where
+  pub len-same : t .«info_len» ≡ u .«info_len»
+  pub value-same : SameValue (t .value) b (u .value) s
+
+pub record Same (m : RouteMirroring) (b : List ℕ) (n : RouteMirroring) (s : List ℕ) : Type 0 where
+  pub count-same : m .count ≡ n .count
+  pub tlv-same : (i : ℕ) → i < m .count → SameTlv (getD (m .tlvs) i zeroTlv) b (getD (n .tlvs) i zeroTlv) s

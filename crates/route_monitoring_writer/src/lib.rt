@@ -1,0 +1,35 @@
+// Writing the body of a BMP Route Monitoring message (RFC 7854, section 4.6).
+use route_monitoring::RouteMonitoring;
+use wire::View;
+use writing::WriteAnswer;
+ghost use mathlib.Core.Path.{_≡_};
+ghost use lib.ListN.{length};
+ghost use Rattle.writing.specs.Write.{writeAnswer, written};
+ghost use Rattle.route_monitoring_writer.specs.Write.{viewWritable, writable, bytesOf};
+
+pub fn write_route_monitoring(
+    message: RouteMonitoring,
+    buffer: &[u8],
+    out: &mut [u8],
+) -> WriteAnswer
+    ensures { λ r. ⌜ r ≡ writeAnswer (writable message (length (now (buffer .entry)))) (length (bytesOf message (now (buffer .entry)))) (length (now (out .entry))) ⌝ }
+    ensures { λ _. ⌜ now (out .exit) ≡ written (writable message (length (now (buffer .entry)))) (bytesOf message (now (buffer .entry))) (now (out .entry)) ⌝ }
+{
+    let view = message.bgp_message;
+    let part = view.part(buffer);
+    let answer = writing::write_answer(is_writable(view, buffer.len()), part.len(), out.len());
+    let WriteAnswer::Written(_) = answer else {
+        return answer;
+    };
+    writing::put_bytes(out, 0, part);
+    answer
+}
+
+fn is_writable(view: View, room: usize) -> bool
+    ensures { λ r. ⌜ r ≡ viewWritable view room ⌝ }
+{
+    if route_monitoring::BGP_HEADER <= view.length {
+        return view.is_inside(room);
+    }
+    false
+}

@@ -1,0 +1,45 @@
+-- What a user of the writer of the Statistics body relies on. Assumes nothing.
+use mathlib.Core.Path.{_≡_, sym, subst}
+use mathlib.Core.Bool.{true}
+use mathlib.Core.List.{List}
+use Prim.Native.Nat.{ℕ, _≤_, _<_}
+use native.Mathlib.Omega.{arith}
+use lib.ListN.{length, take, getD}
+use Rattle.wire.specs.Number as Number
+use Rattle.wire.specs.Bytes.{Bytes}
+use Rattle.writing.specs.Write.{lengthOf, Wrote}
+use Rattle.writing.specs.declared.WriteAnswer.{WriteAnswer}
+use Rattle.writing.specs.declared.WriteAnswer.the-variants.{Written}
+use Rattle.writing.proofs.Answers.{front, wrote-determined}
+use Rattle.stats_report.specs.Shown.{zeroCounter, places}
+use Rattle.stats_report_writer.specs.Write.{readingOf, bytesOf, writable}
+use Rattle.stats_report.specs.declared.StatsReport.{StatsReport}
+use Rattle.stats_report_writer.proofs.Written.{writes-of}
+use Rattle.stats_report_writer.proofs.Trip.{parts-count, good-of, ReadsBack, reads-back}
+use Rattle.stats_report_writer.proofs.Converse.{Inside, bytes-written, writable-from}
+use Rattle.stats_report.proofs.Promises.{sound, complete, views}
+
+-- What the writer has written, where the record is writable and there is room, is read back as the same record.
+pub round-trip : (m : StatsReport) (b out out′ : List ℕ) (a : WriteAnswer) → Bytes b → length (m .counters) ≡ places
+    → Wrote (writable m (length b)) (bytesOf m b) out a out′
+    → writable m (length b) ≡ true → length (bytesOf m b) ≤ Number.limit → length (bytesOf m b) ≤ length out
+    → (a ≡ Written (length (bytesOf m b))) × ReadsBack m b (take (lengthOf a) out′)
+round-trip m b out out′ a p long wrote w short room =
+    let f = front wrote w short room in
+    let x = writes-of m (length b) w in
+    let g = good-of m b p long x in
+    let a = complete (readingOf m b) g (omega (arith, parts-count m b long (x .few), x .few)) short in
+    (f .answer-is, subst (ReadsBack m b) (sym (f .bytes-are)) (reads-back m b long x a (views (readingOf m b) g)))
+
+-- A record whose views lie inside the buffer, and whose bytes are read back as itself, is writable.
+pub only-writable : (m : StatsReport) (b : List ℕ) → Bytes b → length (m .counters) ≡ places
+    → ((i : ℕ) → i < m .count → Inside b (getD (m .counters) i zeroCounter))
+    → ReadsBack m b (bytesOf m b) → writable m (length b) ≡ true
+only-writable m b p long inside r =
+    let q = sound (bytesOf m b) (bytes-written m b p) (r .read-good) in
+    writable-from m b long inside (q .0) (q .1) (views (q .0) (q .1 .reading .is-good)) r
+
+-- ---- any two answers, and any two outputs, that the contract allows are equal
+pub write-determined : (m : StatsReport) (b out : List ℕ) (r q : WriteAnswer) (o p : List ℕ)
+    → Wrote (writable m (length b)) (bytesOf m b) out r o → Wrote (writable m (length b)) (bytesOf m b) out q p → (r ≡ q) × (o ≡ p)
+write-determined m b out r q o p = wrote-determined

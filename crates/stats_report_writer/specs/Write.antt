@@ -1,0 +1,65 @@
+-- What the writer writes: the reading of a record, by the grammar's own parts; which records are writable; when two are the same.
+use Prim.Native.Nat.{ℕ, _+_, _<_}
+use mathlib.Core.Path.{_≡_}
+use mathlib.Core.Bool.{Bool, false}
+use mathlib.Core.List.{List, []}
+use lib.ListN.{take, getD}
+use lib.Dec.{ltb, eqb}
+use Rattle.wire.specs.Bytes.{pick}
+use Rattle.writing.specs.Write.{tlvBytes}
+use Rattle.writing.specs.Table.{Writer, parts, allOk}
+use Rattle.stats_type.specs.Shown.{kindOf}
+use Rattle.stats_data.specs.Shown.{valueIn}
+use Rattle.stats_data_writer.specs.Write.{dataBytes, dataWritable}
+use Rattle.stats_report.specs.Grammar.{Stat, putStat, Reading, join}
+use Rattle.stats_report.specs.Shown.{zeroCounter, places}
+use Rattle.stats_report.specs.declared.StatCounter.{StatCounter}
+use Rattle.stats_report.specs.declared.StatsReport.{StatsReport}
+
+-- ---- the reading of a record whose views point into a buffer
+abbrev pub partOf : List ℕ → StatCounter → Stat
+partOf b t = record { kind = kindOf (t .«stat_type»); size = t .«stat_len»; value = valueIn b (t .«stat_data») }
+
+-- a counter is writable, by the buffer's length, where its data is with its type and length
+abbrev pub counterWritable : ℕ → StatCounter → Bool
+counterWritable room t = dataWritable room (kindOf (t .«stat_type»)) (t .«stat_len») (t .«stat_data»)
+
+abbrev pub writer : Writer
+writer =
+    record {
+      Entry = StatCounter;
+      Item = Stat;
+      part = partOf;
+      put = putStat;
+      ok = λ room after t. counterWritable room t;
+      size = λ t. 4 + t .«stat_len»;
+    }
+
+-- the bytes of one counter alone
+abbrev pub oneCounter : List ℕ → StatCounter → List ℕ
+oneCounter b t = tlvBytes (kindOf (t .«stat_type»)) (t .«stat_len») (dataBytes b (t .«stat_data»))
+
+-- ---- the whole record: its count, its entries below the number of entries, and no tail
+abbrev pub kept : StatsReport → List StatCounter
+kept m = take (m .count) (m .counters)
+
+abbrev pub readingOf : StatsReport → List ℕ → Reading
+readingOf m b = record { count = m .«stats_count»; stats = parts writer b (kept m); tail = [] }
+
+abbrev pub bytesOf : StatsReport → List ℕ → List ℕ
+bytesOf m b = join (readingOf m b)
+
+-- no more than the table holds, the count is theirs, and each is writable
+abbrev pub writable : StatsReport → ℕ → Bool
+writable m room = pick (ltb places (m .count)) false (pick (eqb (m .«stats_count») (m .count)) (allOk writer room (kept m)) false)
+
+-- ---- two records are the same: their numbers below the number of entries, and the bytes that their views show, each in its own buffer
+pub record SameCounter (t : StatCounter) (b : List ℕ) (u : StatCounter) (s : List ℕ) : Type 0 where
+  pub kind-same : kindOf (t .«stat_type») ≡ kindOf (u .«stat_type»)
+  pub len-same : t .«stat_len» ≡ u .«stat_len»
+  pub data-same : valueIn b (t .«stat_data») ≡ valueIn s (u .«stat_data»)
+
+pub record Same (m : StatsReport) (b : List ℕ) (n : StatsReport) (s : List ℕ) : Type 0 where
+  pub stats-count-same : m .«stats_count» ≡ n .«stats_count»
+  pub count-same : m .count ≡ n .count
+  pub counter-same : (i : ℕ) → i < m .count → SameCounter (getD (m .counters) i zeroCounter) b (getD (n .counters) i zeroCounter) s

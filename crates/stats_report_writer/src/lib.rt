@@ -1,0 +1,111 @@
+// Writing the body of a BMP Statistics Report (RFC 7854, section 4.8).
+use stats_report::StatCounter;
+use stats_report::StatsReport;
+use writing::WriteAnswer;
+ghost use mathlib.Core.Path.{_≡_};
+ghost use mathlib.Core.Bool.{true};
+ghost use Prim.Native.Nat.{_+_, _≤_};
+ghost use lib.ListN.{length};
+ghost use lib.Seq.{sets};
+ghost use Rattle.writing.specs.Write.{putAt, writeAnswer, written};
+ghost use Rattle.writing.specs.Table.{sizes};
+ghost use Rattle.stats_report_writer.specs.Write.{counterWritable, writer, oneCounter, kept, bytesOf, writable};
+
+pub fn write_stats_report(report: StatsReport, buffer: &[u8], out: &mut [u8]) -> WriteAnswer
+    ensures { λ r. ⌜ r ≡ writeAnswer (writable report (length (now (buffer .entry)))) (length (bytesOf report (now (buffer .entry)))) (length (now (out .entry))) ⌝ }
+    ensures { λ _. ⌜ now (out .exit) ≡ written (writable report (length (now (buffer .entry)))) (bytesOf report (now (buffer .entry))) (now (out .entry)) ⌝ }
+{
+    if !is_writable(report, buffer.len()) {
+        return writing::write_answer(false, 0, out.len());
+    }
+    let answer = writing::write_answer(true, written_length(report), out.len());
+    let WriteAnswer::Written(_) = answer else {
+        return answer;
+    };
+    put_report(report, buffer, out);
+    answer
+}
+
+fn is_writable(report: StatsReport, room: usize) -> bool
+    ensures { λ r. ⌜ r ≡ writable report room ⌝ }
+{
+    let count = report.count;
+    if 64 < count {
+        return false;
+    }
+    if (report.stats_count as usize) != count {
+        return false;
+    }
+    let mut i: usize = 0;
+    while i < count {
+        let counter = report.counters[i];
+        if !counter_writable(counter, room) {
+            return false;
+        }
+        i += 1;
+    }
+    true
+}
+
+fn counter_writable(counter: StatCounter, room: usize) -> bool
+    ensures { λ r. ⌜ r ≡ counterWritable room counter ⌝ }
+{
+    let stat_type = counter.stat_type;
+    let stat_data = counter.stat_data;
+    stats_data_writer::data_writable(
+        stats_type::kind_of(stat_type),
+        counter.stat_len,
+        stat_data,
+        room,
+    )
+}
+
+fn written_length(report: StatsReport) -> usize
+    requires { ⌜ report .count ≤ 64 ⌝ }
+    ensures { λ r. ⌜ r ≡ 4 + sizes writer (kept report) ⌝ }
+{
+    let count = report.count;
+    let mut length: usize = 4;
+    let mut i: usize = 0;
+    while i < count {
+        let counter = report.counters[i];
+        length += counter_length(counter);
+        i += 1;
+    }
+    length
+}
+
+fn counter_length(counter: StatCounter) -> usize
+    ensures { λ r. ⌜ (r ≡ 4 + counter .«stat_len») × (r ≤ 65539) ⌝ }
+{
+    let size = counter.stat_len;
+    4 + (size as usize)
+}
+
+fn put_report(report: StatsReport, buffer: &[u8], out: &mut [u8])
+    requires { ⌜ writable report (length (now buffer)) ≡ true ⌝ }
+    requires { ⌜ 4 + sizes writer (kept report) ≤ length (now out) ⌝ }
+    ensures { λ _. ⌜ now (out .exit) ≡ sets (now (out .entry)) 0 (bytesOf report (now (buffer .entry))) ⌝ }
+{
+    let count = report.count;
+    put_numbers::put_u32(out, 0, report.stats_count);
+    let mut at: usize = 4;
+    let mut i: usize = 0;
+    while i < count {
+        let counter = report.counters[i];
+        put_counter(out, at, counter, buffer);
+        at += counter_length(counter);
+        i += 1;
+    }
+}
+
+fn put_counter(out: &mut [u8], at: usize, counter: StatCounter, buffer: &[u8])
+    requires { ⌜ at + length (oneCounter (now buffer) counter) ≤ length (now out) ⌝ }
+    ensures { λ _. ⌜ now (out .exit) ≡ putAt (now (out .entry)) at (oneCounter (now (buffer .entry)) counter) ⌝ }
+{
+    let stat_type = counter.stat_type;
+    let stat_data = counter.stat_data;
+    put_numbers::put_u16(out, at, stats_type::kind_of(stat_type));
+    put_numbers::put_u16(out, at + 2, counter.stat_len);
+    stats_data_writer::put_data(out, at + 4, stat_data, buffer);
+}
