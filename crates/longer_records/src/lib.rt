@@ -19,8 +19,8 @@ use termination_message::TerminationTlvValue;
 use wire::View;
 use writing::WriteAnswer;
 
-// Sixteen entries of a table fill the longest slice where each has this length, since an entry takes 4 bytes more.
-pub const LARGE: u16 = 65_532;
+// What each of the sixteen entries has that fill the longest slice (limit_inputs).
+const LARGE: u16 = 65_532;
 
 // Writes a record that is one byte longer than the one that a slice holds and fills, made of views of a buffer that begins with that slice.
 // Kinds whose records are always shorter have none.
