@@ -2,6 +2,9 @@
 use kinds::Kind;
 ghost use Prim.Native.Nat.{_≤_};
 
+// Sixteen entries of a table fill the longest slice where each has this length, since an entry takes 4 bytes more.
+pub const LARGE: u16 = 65_532;
+
 // Puts the input that has a number of what a letter stands for, and answers how long it is: t TLVs, c counters, m a length of a mirrored
 // message, o and r a length of a sent and a received OPEN, f a length field, s a slice that a record fills, other letters bytes.
 pub fn put_input(kind: Kind, what: u8, n: u32, bytes: &mut [u8]) -> usize {
@@ -94,13 +97,8 @@ fn put_zeros(bytes: &mut [u8], at: usize) {
 // Sixteen entries; the first is shorter than the others by what stands before it.
 fn put_whole_table(kind: Kind, bytes: &mut [u8]) {
     let start = put_front(kind, 16, bytes);
-    put_items(
-        bytes,
-        start,
-        (longer_records::LARGE as u32) - (start as u32),
-        1,
-    );
-    put_items(bytes, 65_536, longer_records::LARGE as u32, 15);
+    put_items(bytes, start, (LARGE as u32) - (start as u32), 1);
+    put_items(bytes, 65_536, LARGE as u32, 15);
 }
 
 // What stands before a table: the count of counters, or the parts of a Peer Up with two OPENs of 19 bytes. Answers where the table starts.

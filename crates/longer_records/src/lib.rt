@@ -19,9 +19,6 @@ use termination_message::TerminationTlvValue;
 use wire::View;
 use writing::WriteAnswer;
 
-// Sixteen entries of a table fill the longest slice where each has this length, since an entry takes 4 bytes more.
-pub const LARGE: u16 = 65_532;
-
 // Writes a record that is one byte longer than the one that a slice holds and fills, made of views of a buffer that begins with that slice.
 // Kinds whose records are always shorter have none.
 pub fn write_longer(
@@ -53,7 +50,7 @@ fn longer_stats(s: &[u8], buffer: &[u8], out: &mut [u8]) -> WriteAnswer {
     let mut report = answer.report;
     report.counters[1] = StatCounter {
         stat_type: StatType::PrefixesRejectedByInboundPolicy,
-        stat_len: LARGE + 1,
+        stat_len: limit_inputs::LARGE + 1,
         stat_data: StatsData::Unknown(larger_value()),
     };
     stats_report_writer::write_stats_report(report, buffer, out)
@@ -64,7 +61,7 @@ fn longer_initiation(s: &[u8], buffer: &[u8], out: &mut [u8]) -> WriteAnswer {
     let mut message = answer.message;
     message.tlvs[1] = InitiationTlv {
         info_type: InitiationTlvType::String,
-        info_len: LARGE + 1,
+        info_len: limit_inputs::LARGE + 1,
         info: larger_value(),
     };
     initiation_message_writer::write_initiation_message(message, buffer, out)
@@ -74,7 +71,7 @@ fn longer_termination(s: &[u8], buffer: &[u8], out: &mut [u8]) -> WriteAnswer {
     let answer = termination_message::parse_termination_message(s);
     let mut message = answer.message;
     message.tlvs[1] = TerminationTlv {
-        info_len: LARGE + 1,
+        info_len: limit_inputs::LARGE + 1,
         info_value: TerminationTlvValue::String(larger_value()),
     };
     termination_message_writer::write_termination_message(message, buffer, out)
@@ -84,7 +81,7 @@ fn longer_mirroring(s: &[u8], buffer: &[u8], out: &mut [u8]) -> WriteAnswer {
     let answer = route_mirroring::parse_route_mirroring(s);
     let mut message = answer.message;
     message.tlvs[1] = RouteMirroringTlv {
-        info_len: LARGE + 1,
+        info_len: limit_inputs::LARGE + 1,
         value: RouteMirroringValue::BgpMessage(larger_value()),
     };
     route_mirroring_writer::write_route_mirroring(message, buffer, out)
@@ -97,7 +94,7 @@ fn longer_peer_up(arguments: Arguments, s: &[u8], buffer: &[u8], out: &mut [u8])
     let mut message = answer.message;
     message.tlvs[1] = PeerUpNotificationTlv {
         info_type: PeerUpTlvType::String,
-        info_len: LARGE + 1,
+        info_len: limit_inputs::LARGE + 1,
         info_value: larger_value(),
     };
     peer_up_notification_writer::write_peer_up_notification(message, buffer, out)
@@ -107,7 +104,7 @@ fn longer_peer_up(arguments: Arguments, s: &[u8], buffer: &[u8], out: &mut [u8])
 fn larger_value() -> View {
     View {
         place: 65_540,
-        length: (LARGE as usize) + 1,
+        length: (limit_inputs::LARGE as usize) + 1,
     }
 }
 

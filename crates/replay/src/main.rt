@@ -26,17 +26,10 @@ fn main() {
     // One byte more than the longest line: what fills it is no good line, however it goes on.
     let mut line = [0u8; LONGEST_LINE + 1];
     let mut out = [0u8; OUTPUT];
-    answer_lines(&mut chunk, &mut line, &mut out);
+    take_input(&mut chunk, &mut line, &mut out);
 }
 
-fn answer_lines(chunk: &mut [u8], line: &mut [u8], out: &mut [u8]) {
-    let state = take_input(chunk, line, out);
-    // Ends a last line that has no LF; where there is none, the line is empty and answers nothing.
-    let last = take_byte(b'\n', state, line, out);
-    write_out(out, last.filled);
-}
-
-fn take_input(chunk: &mut [u8], line: &mut [u8], out: &mut [u8]) -> State {
+fn take_input(chunk: &mut [u8], line: &mut [u8], out: &mut [u8]) {
     let mut state = State {
         length: 0,
         filled: 0,
@@ -45,12 +38,17 @@ fn take_input(chunk: &mut [u8], line: &mut [u8], out: &mut [u8]) -> State {
     while reads < MOST_READS {
         let n = io::count(libc::read(STDIN_FILENO, chunk), chunk);
         if n == 0 {
-            return state;
+            return end_input(state, line, out);
         }
         state = take_chunk(&chunk[0..n], state, line, out);
         reads += 1;
     }
-    state
+}
+
+// Ends a last line that has no LF; where there is none, the line is empty and answers nothing.
+fn end_input(state: State, line: &mut [u8], out: &mut [u8]) {
+    let last = take_byte(b'\n', state, line, out);
+    write_out(out, last.filled);
 }
 
 fn take_chunk(chunk: &[u8], before: State, line: &mut [u8], out: &mut [u8]) -> State {

@@ -1,6 +1,5 @@
 // The answer to a command of the replay program (docs/REPLAY.md, "Output").
 use forms::Shown;
-use kinds::Arguments;
 use kinds::Kind;
 use peer::BmpPerPeerHeader;
 use replay_line::Command;
@@ -37,77 +36,66 @@ fn bare(form: usize) -> Shown {
 }
 
 fn put_answer(out: &mut [u8], at: usize, command: Command, body: &[u8]) -> usize {
-    let verb = command.verb;
-    let arguments = command.arguments;
-    match verb {
-        Verb::Read(kind) => put_read(out, at, kind, arguments, body),
-        Verb::Rewrite(kind) => put_rewritten(out, at, kind, arguments, body),
-        _ => kinds::put(out, at, answer_of(verb, body), body),
+    let found = answer_of(command, body);
+    if is_rewritten(command, found.form) {
+        let numbers = found.numbers;
+        return put_written(out, at, command, body, numbers[1] as usize);
     }
-}
-
-fn answer_of(verb: Verb, body: &[u8]) -> Shown {
-    match verb {
-        Verb::Split => readings::split(body),
-        Verb::Equal => equal(body),
-        _ => bare(kinds::BAD_LINE),
-    }
-}
-
-fn put_read(out: &mut [u8], at: usize, kind: Kind, arguments: Arguments, body: &[u8]) -> usize {
-    let found = readings::read(kind, arguments, body);
     let next = kinds::put(out, at, found, body);
     if found.form < kinds::PEER_UP {
         return next;
     }
-    put_entries(out, next, found.count, kind, arguments, body)
+    put_entries(out, next, found.count, command, body)
 }
 
-fn put_entries(
-    out: &mut [u8],
-    at: usize,
-    count: usize,
-    kind: Kind,
-    arguments: Arguments,
-    body: &[u8],
-) -> usize {
+fn answer_of(command: Command, body: &[u8]) -> Shown {
+    let verb = command.verb;
+    match verb {
+        Verb::Split => readings::split(body),
+        Verb::Equal => equal(body),
+        Verb::Unknown => bare(kinds::BAD_LINE),
+        _ => readings::read(kind_of(command), command.arguments, body),
+    }
+}
+
+// What is read or rewritten; the other verbs do not ask.
+fn kind_of(command: Command) -> Kind {
+    let verb = command.verb;
+    match verb {
+        Verb::Read(kind) => kind,
+        Verb::Rewrite(kind) => kind,
+        _ => Kind::Common,
+    }
+}
+
+// A record that the reader refuses is not written.
+fn is_rewritten(command: Command, form: usize) -> bool {
+    let verb = command.verb;
+    match verb {
+        Verb::Rewrite(_) => form != kinds::REFUSED,
+        _ => false,
+    }
+}
+
+fn put_entries(out: &mut [u8], at: usize, count: usize, command: Command, body: &[u8]) -> usize {
     let mut next = at;
     let mut i: usize = 0;
     while i < count {
-        let entry = entries::entry(kind, arguments, body, i);
-        next = kinds::put(out, next, entry, body);
+        next = kinds::put(out, next, entry(command, body, i), body);
         i += 1;
     }
     kinds::put(out, next, bare(kinds::TABLE_END), body)
 }
 
-fn put_rewritten(
-    out: &mut [u8],
-    at: usize,
-    kind: Kind,
-    arguments: Arguments,
-    body: &[u8],
-) -> usize {
-    let found = readings::read(kind, arguments, body);
-    if found.form == kinds::REFUSED {
-        return kinds::put(out, at, found, body);
-    }
-    let numbers = found.numbers;
-    put_written(out, at, kind, arguments, body, numbers[1] as usize)
+fn entry(command: Command, body: &[u8], i: usize) -> Shown {
+    entries::entry(kind_of(command), command.arguments, body, i)
 }
 
-fn put_written(
-    out: &mut [u8],
-    at: usize,
-    kind: Kind,
-    arguments: Arguments,
-    body: &[u8],
-    tail: usize,
-) -> usize {
+fn put_written(out: &mut [u8], at: usize, command: Command, body: &[u8], tail: usize) -> usize {
     let mut room = [0xa5u8; MOST_BYTES + 2];
     let lent = output(&mut room, tail);
-    let answer = rewriting::rewrite(kind, arguments, body, lent);
-    kinds::put(out, at, written(answer, lent.len() as u64), lent)
+    let shown = written(command, body, lent);
+    kinds::put(out, at, shown, lent)
 }
 
 // Two bytes more than the tail's start. A tail starts within the line's bytes, so there is always room; were there none, the writer would
@@ -120,10 +108,12 @@ fn output(room: &mut [u8], tail: usize) -> &mut [u8] {
 }
 
 // The writer's answer, and the whole of its output afterwards.
-fn written(answer: WriteAnswer, length: u64) -> Shown {
-    match answer {
+fn written(command: Command, body: &[u8], lent: &mut [u8]) -> Shown {
+    match rewriting::rewrite(kind_of(command), command.arguments, body, lent) {
         WriteAnswer::Refused(refusal) => kinds::refused(refusal),
-        WriteAnswer::Written(n) => { forms::of_five(kinds::WRITTEN, 0, n as u64, 0, length, 0, 0) }
+        WriteAnswer::Written(n) => {
+            forms::of_five(kinds::WRITTEN, 0, n as u64, 0, lent.len() as u64, 0, 0)
+        }
     }
 }
 

@@ -6,17 +6,17 @@ use lib.ListN.{length-replicate}
 use Rattle.replay.proofs.main.Statement.{statement}
 use Rattle.replay.proofs.main.Tie as tie
 
-slice-aggregate-answer-lines : tie.Need-slice-aggregate-answer-lines
-slice-aggregate-answer-lines c = sym (length-replicate {0} {A = ℕ} 65536 0)
+slice-aggregate-take-input : tie.Need-slice-aggregate-take-input
+slice-aggregate-take-input c = sym (length-replicate {0} {A = ℕ} 65536 0)
 
-slice-aggregate-answer-lines-2 : tie.Need-slice-aggregate-answer-lines-2
-slice-aggregate-answer-lines-2 c = sym (length-replicate {0} {A = ℕ} 131108 0)
+slice-aggregate-take-input-2 : tie.Need-slice-aggregate-take-input-2
+slice-aggregate-take-input-2 c = sym (length-replicate {0} {A = ℕ} 131108 0)
 
-slice-aggregate-answer-lines-3 : tie.Need-slice-aggregate-answer-lines-3
-slice-aggregate-answer-lines-3 c = sym (length-replicate {0} {A = ℕ} 524288 0)
+slice-aggregate-take-input-3 : tie.Need-slice-aggregate-take-input-3
+slice-aggregate-take-input-3 c = sym (length-replicate {0} {A = ℕ} 524288 0)
 
-answer-lines-requires : tie.Need-answer-lines-requires
-answer-lines-requires c κs = search needs
+take-input-requires : tie.Need-take-input-requires
+take-input-requires c κs = search needs
 
 returns : tie.Need-returns
 returns c = search needs
@@ -25,8 +25,8 @@ pub main-spec : {M : Type 1} → statement M
 main-spec =
     tie.close
     (tie.spec
-    slice-aggregate-answer-lines
-    slice-aggregate-answer-lines-2
-    slice-aggregate-answer-lines-3
-    answer-lines-requires
+    slice-aggregate-take-input
+    slice-aggregate-take-input-2
+    slice-aggregate-take-input-3
+    take-input-requires
     returns)

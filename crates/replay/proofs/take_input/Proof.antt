@@ -20,6 +20,9 @@ read-requires c κs = search needs
 count-requires : tie.Need-count-requires Inv-loop μ-loop
 count-requires c κs = search needs
 
+end-input-requires : tie.Need-end-input-requires Inv-loop μ-loop
+end-input-requires c κs = search needs
+
 same-length : tie.Need-same-length Inv-loop μ-loop
 same-length c = search needs
 
@@ -74,6 +77,7 @@ take-input-spec =
     loop-holds
     read-requires
     count-requires
+    end-input-requires
     same-length
     same-length-2
     same-length-3

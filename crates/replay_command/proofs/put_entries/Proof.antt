@@ -6,10 +6,10 @@ use Rattle.replay_command.proofs.put_entries.Statement.{statement}
 use Rattle.replay_command.proofs.put_entries.Tie as tie
 
 abbrev Inv-loop : tie.InvT-loop
-Inv-loop out₀ at count kind arguments body next₀ i₀ out next i = (i ≤ count) × (length out ≡ length out₀)
+Inv-loop out₀ at count command body next₀ i₀ out next i = (i ≤ count) × (length out ≡ length out₀)
 
 abbrev μ-loop : tie.MeasureT-loop
-μ-loop out₀ at count kind arguments body next₀ i₀ out next i = count - i
+μ-loop out₀ at count command body next₀ i₀ out next i = count - i
 
 loop-holds : tie.Need-loop-holds Inv-loop μ-loop
 loop-holds c = search needs

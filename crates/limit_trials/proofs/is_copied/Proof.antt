@@ -1,8 +1,8 @@
 use borrow.Author.Needs.{needs}
 use Prim.Native.Nat.{_-_, _≤_}
 use lib.ListN.{length}
-use Rattle.limits.proofs.is_copied.Statement.{statement}
-use Rattle.limits.proofs.is_copied.Tie as tie
+use Rattle.limit_trials.proofs.is_copied.Statement.{statement}
+use Rattle.limit_trials.proofs.is_copied.Tie as tie
 
 abbrev Inv-loop : tie.InvT-loop
 Inv-loop bytes out n i₀ i = (n ≤ length bytes) × (n ≤ length out)

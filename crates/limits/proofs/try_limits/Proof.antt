@@ -2,20 +2,20 @@ use borrow.Author.Needs.{needs}
 use mathlib.Core.Path.{_≡_}
 use Prim.Native.Nat.{_-_, _≤_}
 use lib.ListN.{length}
-use Rattle.limits.proofs.try_writers.Statement.{statement}
-use Rattle.limits.proofs.try_writers.Tie as tie
+use Rattle.limits.proofs.try_limits.Statement.{statement}
+use Rattle.limits.proofs.try_limits.Tie as tie
 
 abbrev Inv-loop : tie.InvT-loop
-Inv-loop bytes₀ out₀ i₀ bytes out i = (i ≤ 10) × ((length bytes ≡ length bytes₀) × (length out ≡ length out₀))
+Inv-loop bytes₀ out₀ i₀ bytes out i = (i ≤ 98) × ((length bytes ≡ length bytes₀) × (length out ≡ length out₀))
 
 abbrev μ-loop : tie.MeasureT-loop
-μ-loop bytes₀ out₀ i₀ bytes out i = 10 - i
+μ-loop bytes₀ out₀ i₀ bytes out i = 98 - i
 
 loop-holds : tie.Need-loop-holds Inv-loop μ-loop
 loop-holds c = search needs
 
-try-writer-requires : tie.Need-try-writer-requires Inv-loop μ-loop
-try-writer-requires c κs = search needs
+try-limit-requires : tie.Need-try-limit-requires Inv-loop μ-loop
+try-limit-requires c κs = search needs
 
 add-i : tie.Need-add-i Inv-loop μ-loop
 add-i c = search needs
@@ -35,14 +35,14 @@ same-length-2 c = search needs
 returns : tie.Need-returns Inv-loop μ-loop
 returns c = search needs
 
-pub try-writers-spec : {M : Type 1} → statement M
-try-writers-spec =
+pub try-limits-spec : {M : Type 1} → statement M
+try-limits-spec =
     tie.close
     (tie.spec
     Inv-loop
     μ-loop
     loop-holds
-    try-writer-requires
+    try-limit-requires
     add-i
     loop-less
     loop-again

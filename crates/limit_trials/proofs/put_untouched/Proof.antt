@@ -2,8 +2,8 @@ use borrow.Author.Needs.{needs}
 use mathlib.Core.Path.{_≡_}
 use Prim.Native.Nat.{_-_, _≤_}
 use lib.ListN.{length}
-use Rattle.limits.proofs.put_untouched.Statement.{statement}
-use Rattle.limits.proofs.put_untouched.Tie as tie
+use Rattle.limit_trials.proofs.put_untouched.Statement.{statement}
+use Rattle.limit_trials.proofs.put_untouched.Tie as tie
 
 abbrev Inv-loop : tie.InvT-loop
 Inv-loop out₀ i₀ out i = (i ≤ length out₀) × (length out ≡ length out₀)
