@@ -151,6 +151,11 @@ pub fn judged(refusal: Refusal, shown: Shown) -> Shown {
     shown
 }
 
+// A form without numbers.
+pub fn bare(form: usize) -> Shown {
+    forms::of_five(form, 0, 0, 0, 0, 0, 0)
+}
+
 pub fn refused(refusal: Refusal) -> Shown {
     forms::of_five(
         REFUSED,

@@ -9,10 +9,7 @@ use lib.Dec.{leb}
 use Rattle.wire.specs.Bytes.{pick}
 use Rattle.wire.specs.declared.Refusal.{Refusal}
 use Rattle.wire.proofs.Determined.{determined}
-use Rattle.models.specs.declared.Afi.{Afi}
-use Rattle.models.specs.declared.IpAddr.{IpAddr}
 use Rattle.layout.specs.Layout.{total, firstCut, cutIn, sixteenAt}
-use Rattle.layout.specs.Address.{shownIp, routerIp}
 
 -- The first field of a run that lacks bytes: those before it lie whole in n bytes, and it does not.
 pub record FirstLacking (ws : List ℕ) (at n place : ℕ) : Type 0 where
@@ -60,9 +57,3 @@ cut-in-determined ws at n r q = determined
 
 pub sixteen-at-determined : (s : List ℕ) (at : ℕ) (r q : List ℕ) → r ≡ sixteenAt s at → q ≡ sixteenAt s at → r ≡ q
 sixteen-at-determined s at r q = determined
-
-pub shown-ip-determined : (afi : Afi) (octets : List ℕ) (r q : IpAddr) → r ≡ shownIp afi octets → q ≡ shownIp afi octets → r ≡ q
-shown-ip-determined afi octets r q = determined
-
-pub router-ip-determined : (afi : Afi) (octets : List ℕ) (r q : IpAddr) → r ≡ routerIp afi octets → q ≡ routerIp afi octets → r ≡ q
-router-ip-determined afi octets r q = determined

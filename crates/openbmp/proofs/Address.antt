@@ -1,8 +1,8 @@
--- The address that `layout` shows of sixteen octets is the one that the grammar's field shows. Assumes nothing.
+-- The address that `addresses` shows of sixteen octets is the one that the grammar's field shows. Assumes nothing.
 use Prim.Native.Nat.{ℕ}
 use mathlib.Core.List.{List}
 use mathlib.Core.Path.{_≡_, refl}
-use Rattle.layout.specs.Address.{routerIp}
+use Rattle.addresses.specs.Address.{routerIp}
 use Rattle.models.specs.declared.Afi.{Afi}
 use Rattle.models.specs.declared.Afi.the-variants.{Ipv4, Ipv6}
 use Rattle.openbmp.specs.Shown.{shownIp}

@@ -161,7 +161,7 @@ fn read_header(s: &[u8], admin: usize, group: usize) -> OpenBmpAnswer
             place: 40,
             length: admin,
         },
-        router_ip: layout::router_ip(
+        router_ip: addresses::router_ip(
             family(numbers::u8_at(s, 12)),
             layout::sixteen_at(s, 56 + admin),
         ),

@@ -83,7 +83,7 @@ fn ip_fits(address: IpAddr) -> bool
 {
     let afi = address.afi;
     let octets = address.octets;
-    layout::router_ip(afi, octets).equals(address)
+    addresses::router_ip(afi, octets).equals(address)
 }
 
 // The length of a view has two bytes on the wire.

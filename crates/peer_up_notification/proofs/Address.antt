@@ -1,9 +1,9 @@
--- The address that `layout` shows of sixteen octets is the one behind what the grammar skips. Assumes nothing.
+-- The address that `addresses` shows of sixteen octets is the one behind what the grammar skips. Assumes nothing.
 use Prim.Native.Nat.{ℕ}
 use mathlib.Core.List.{List}
 use mathlib.Core.Path.{_≡_, refl}
 use lib.ListN.{drop}
-use Rattle.layout.specs.Address.{shownIp}
+use Rattle.addresses.specs.Address.{shownIp}
 use Rattle.models.specs.declared.Afi.{Afi}
 use Rattle.models.specs.declared.Afi.the-variants.{Ipv4, Ipv6}
 use Rattle.peer_up_notification.specs.Grammar.{skippedFor}

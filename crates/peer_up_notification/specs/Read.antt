@@ -16,7 +16,7 @@ use Rattle.wire.specs.Walk.{stop, bad, item, from, Kit, Out, good, refused, rea
 use Rattle.wire.specs.declared.View.{View}
 use Rattle.wire.specs.Exactly.{Reader}
 use Rattle.layout.specs.Layout.{cutIn, sixteenAt}
-use Rattle.layout.specs.Address.{shownIp}
+use Rattle.addresses.specs.Address.{shownIp}
 use Rattle.models.specs.declared.Afi.{Afi}
 use Rattle.peer_type.specs.declared.BmpPeerType.{BmpPeerType}
 use Rattle.peer_up_notification.specs.Grammar.{Message, widths}

@@ -163,7 +163,7 @@ fn front_of(s: &[u8], afi: Afi, sent_open: View, received_open: View) -> Front
 {
     let octets = layout::sixteen_at(s, 0);
     Front {
-        local_addr: layout::shown_ip(afi, octets),
+        local_addr: addresses::shown_ip(afi, octets),
         local_port: numbers::u16_at(s, 16),
         remote_port: numbers::u16_at(s, 18),
         sent_open: sent_open,

@@ -20,7 +20,7 @@ use Rattle.writing.proofs.Table.{kept-each}
 use Rattle.writing.proofs.Trip.{parts-back}
 use Rattle.tlv_table.proofs.Written.{view-long, good-fits}
 use Rattle.tlv_table.proofs.Translated.{bytes-translated}
-use Rattle.layout.specs.Address.{shownIp}
+use Rattle.addresses.specs.Address.{shownIp}
 use Rattle.models.specs.declared.IpAddr.{IpAddr}
 use Rattle.models.proofs.Promises.{equals-is-equality}
 use Rattle.peer_type.specs.declared.BmpPeerType.{BmpPeerType}

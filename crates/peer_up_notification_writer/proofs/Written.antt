@@ -27,7 +27,7 @@ use Rattle.tlv_table.specs.Tlvs.{entryWritable, tableWritable, tableBytes, putB
 use Rattle.tlv_table.specs.declared.TlvTable.{TlvTable}
 use Rattle.tlv_table.proofs.Written.{view-long, sets-in-front}
 use Rattle.tlv_table.proofs.Translated.{Translates, writable-same, bytes-same}
-use Rattle.layout.specs.Address.{shownIp}
+use Rattle.addresses.specs.Address.{shownIp}
 use Rattle.models.specs.declared.IpAddr.{IpAddr}
 use Rattle.models.proofs.Promises.{equals-is-equality}
 use Rattle.peer_up_notification.specs.Grammar.{messageBytes, skippedFor}

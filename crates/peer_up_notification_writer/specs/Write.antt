@@ -14,7 +14,7 @@ use Rattle.writing.specs.Table.{Writer, parts, allOk}
 use Rattle.tlv_table.specs.declared.TlvValue.the-variants.{Part}
 use Rattle.tlv_table.specs.declared.TlvEntry.{TlvEntry}
 use Rattle.tlv_table.specs.declared.TlvTable.{TlvTable}
-use Rattle.layout.specs.Address.{shownIp}
+use Rattle.addresses.specs.Address.{shownIp}
 use Rattle.models.specs.Address.{sameAddress}
 use Rattle.models.specs.declared.IpAddr.{IpAddr}
 use Rattle.peer_up_notification.specs.Grammar.{skippedFor, Reading, join}

@@ -57,7 +57,7 @@ fn address_writable(address: IpAddr) -> bool
 {
     let afi = address.afi;
     let octets = address.octets;
-    layout::shown_ip(afi, octets).equals(address)
+    addresses::shown_ip(afi, octets).equals(address)
 }
 
 // A view that lies outside shows nothing, so no length of its own.

@@ -1,4 +1,4 @@
--- The address that `layout` shows of sixteen octets is the one that the grammar's field shows, but of a Loc-RIB. Assumes nothing.
+-- The address that `addresses` shows of sixteen octets is the one that the grammar's field shows, but of a Loc-RIB. Assumes nothing.
 use Prim.Native.Nat.{ℕ}
 use mathlib.Core.Bool.{Bool, true, false}
 use mathlib.Core.List.{List}
@@ -6,7 +6,7 @@ use mathlib.Core.Path.{_≡_, refl}
 use borrow.Author.Tests.{ne-eqb}
 use lib.ListN.{take, drop}
 use Rattle.wire.specs.Bytes.{pick}
-use Rattle.layout.specs.Address.{shownIp}
+use Rattle.addresses.specs.Address.{shownIp}
 use Rattle.models.specs.declared.Afi.the-variants.{Ipv4, Ipv6}
 use Rattle.peer_type.specs.Peer.{flagV, addressFamily}
 use Rattle.per_peer_header.specs.Grammar.{ipv4, ipv6}

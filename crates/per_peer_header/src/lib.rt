@@ -139,7 +139,7 @@ fn shown_address(kind: u8, flags: PerPeerFlags, octets: [u8; 16]) -> IpAddr
     if kind == peer_type::LOCAL_RIB {
         return IpAddr::unspecified();
     }
-    layout::shown_ip(flags.address_family(), octets)
+    addresses::shown_ip(flags.address_family(), octets)
 }
 
 fn shown_asn(kind: u8, flags: PerPeerFlags, number: u32) -> u32

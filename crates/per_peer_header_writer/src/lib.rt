@@ -52,7 +52,7 @@ fn address_fits(kind: u8, flags: PerPeerFlags, address: IpAddr) -> bool
         return IpAddr::unspecified().equals(address);
     }
     let octets = address.octets;
-    layout::shown_ip(flags.address_family(), octets).equals(address)
+    addresses::shown_ip(flags.address_family(), octets).equals(address)
 }
 
 // The number of a Loc-RIB's AS has all four bytes, whatever its flags hold.

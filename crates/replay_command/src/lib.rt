@@ -1,11 +1,9 @@
 // The answer to a command of the replay program (docs/REPLAY.md, "Output").
 use forms::Shown;
 use kinds::Kind;
-use peer::BmpPerPeerHeader;
 use replay_line::Command;
 use replay_line::Unhexed;
 use replay_line::Verb;
-use wire::Refusal;
 use wire::View;
 use writing::WriteAnswer;
 
@@ -27,12 +25,7 @@ pub fn put_command(out: &mut [u8], at: usize, command: Command, line: &[u8]) -> 
 }
 
 pub fn put_bad_line(out: &mut [u8], at: usize) -> usize {
-    kinds::put(out, at, bare(kinds::BAD_LINE), b"")
-}
-
-// A form without numbers.
-fn bare(form: usize) -> Shown {
-    forms::of_five(form, 0, 0, 0, 0, 0, 0)
+    kinds::put(out, at, kinds::bare(kinds::BAD_LINE), b"")
 }
 
 fn put_answer(out: &mut [u8], at: usize, command: Command, body: &[u8]) -> usize {
@@ -52,8 +45,8 @@ fn answer_of(command: Command, body: &[u8]) -> Shown {
     let verb = command.verb;
     match verb {
         Verb::Split => readings::split(body),
-        Verb::Equal => equal(body),
-        Verb::Unknown => bare(kinds::BAD_LINE),
+        Verb::Equal => replay_equal::equal(body),
+        Verb::Unknown => kinds::bare(kinds::BAD_LINE),
         _ => readings::read(kind_of(command), command.arguments, body),
     }
 }
@@ -84,7 +77,7 @@ fn put_entries(out: &mut [u8], at: usize, count: usize, command: Command, body: 
         next = kinds::put(out, next, entry(command, body, i), body);
         i += 1;
     }
-    kinds::put(out, next, bare(kinds::TABLE_END), body)
+    kinds::put(out, next, kinds::bare(kinds::TABLE_END), body)
 }
 
 fn entry(command: Command, body: &[u8], i: usize) -> Shown {
@@ -114,46 +107,5 @@ fn written(command: Command, body: &[u8], lent: &mut [u8]) -> Shown {
         WriteAnswer::Written(n) => {
             forms::of_five(kinds::WRITTEN, 0, n as u64, 0, lent.len() as u64, 0, 0)
         }
-    }
-}
-
-fn equal(body: &[u8]) -> Shown {
-    if body.len() != 84 {
-        return bare(kinds::BAD_LINE);
-    }
-    let first = per_peer_header::parse_per_peer_header(&body[0..42]);
-    let second = per_peer_header::parse_per_peer_header(&body[42..84]);
-    let one = first.header;
-    let other = second.header;
-    let second_answer = kinds::judged(behind_header(second.refusal), same(one, other));
-    kinds::judged(first.refusal, second_answer)
-}
-
-// The place counts from the first header's start.
-fn behind_header(refusal: Refusal) -> Refusal {
-    Refusal {
-        number: refusal.number,
-        place: std::num::wrapping_add_usize(refusal.place, 42),
-    }
-}
-
-fn same(one: BmpPerPeerHeader, other: BmpPerPeerHeader) -> Shown {
-    let stripped = one.strip_timestamp();
-    let without_time = stripped.equals(other.strip_timestamp());
-    bare(same_form(one.equals(other), without_time))
-}
-
-fn same_form(with_time: bool, without_time: bool) -> usize {
-    if with_time {
-        return if without_time {
-            kinds::YES_YES
-        } else {
-            kinds::YES_NO
-        };
-    }
-    if without_time {
-        kinds::NO_YES
-    } else {
-        kinds::NO_NO
     }
 }

@@ -10,7 +10,7 @@ use Rattle.wire.specs.Refusal.{noRefusal}
 use Rattle.wire.specs.View.{view}
 use Rattle.wire.proofs.Bytes.{number-is}
 use Rattle.times.specs.Time.{timeOf}
-use Rattle.layout.specs.Address.{routerIp}
+use Rattle.addresses.specs.Address.{routerIp}
 use Rattle.openbmp.specs.Read.{familyOf}
 use Rattle.openbmp.proofs.Address.{router-ip-shown}
 use Rattle.openbmp.proofs.read_header.Statement.{statement}

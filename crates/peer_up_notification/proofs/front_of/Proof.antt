@@ -1,6 +1,6 @@
 use borrow.Author.Needs.{needs}
 use mathlib.Core.Path.{ap, _∙_}
-use Rattle.layout.specs.Address.{shownIp}
+use Rattle.addresses.specs.Address.{shownIp}
 use Rattle.peer_up_notification.proofs.front_of.Statement.{statement}
 use Rattle.peer_up_notification.proofs.front_of.Tie as tie
 

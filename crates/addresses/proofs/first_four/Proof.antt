@@ -4,8 +4,8 @@ use mathlib.Core.Path.{_≡_, refl, sym, ap}
 use Prim.Native.Nat.{ℕ}
 use mathlib.Core.List.{List, [], _∷_, _++_}
 use lib.ListN.{length, take, getD, replicate}
-use Rattle.layout.proofs.first_four.Statement.{statement}
-use Rattle.layout.proofs.first_four.Tie as tie
+use Rattle.addresses.proofs.first_four.Statement.{statement}
+use Rattle.addresses.proofs.first_four.Tie as tie
 
 four : (l : List ℕ) → length l ≡ 16 → take 4 l ≡ getD l 0 0 ∷ getD l 1 0 ∷ getD l 2 0 ∷ getD l 3 0 ∷ []
 four [] h = absurd (omega arith)

@@ -5,8 +5,8 @@ use Prim.Native.Nat.{ℕ}
 use mathlib.Core.List.{List, [], _∷_, _++_}
 use lib.ListN.{length, drop, getD, replicate, drop-of-length-le}
 use lib.Seq.{drop-cons}
-use Rattle.layout.proofs.last_four.Statement.{statement}
-use Rattle.layout.proofs.last_four.Tie as tie
+use Rattle.addresses.proofs.last_four.Statement.{statement}
+use Rattle.addresses.proofs.last_four.Tie as tie
 
 four : (l : List ℕ) → length l ≡ 16 → drop 12 l ≡ getD l 12 0 ∷ getD l 13 0 ∷ getD l 14 0 ∷ getD l 15 0 ∷ []
 four l h =

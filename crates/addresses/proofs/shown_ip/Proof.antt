@@ -1,7 +1,7 @@
 use borrow.Author.Needs.{needs}
 use mathlib.Core.Path.{sym}
-use Rattle.layout.proofs.shown_ip.Statement.{statement}
-use Rattle.layout.proofs.shown_ip.Tie as tie
+use Rattle.addresses.proofs.shown_ip.Statement.{statement}
+use Rattle.addresses.proofs.shown_ip.Tie as tie
 
 enum-told : tie.Need-enum-told
 enum-told c = search needs
