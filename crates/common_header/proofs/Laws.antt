@@ -1,7 +1,7 @@
 -- The reader and the grammar: an input taken apart and joined again, both ways. Assumes nothing.
 use mathlib.Core.Path.{_≡_, refl}
 use mathlib.Core.Bool.{Bool, true, false}
-use mathlib.Core.List.{List, []}
+use mathlib.Core.List.{List}
 use Prim.Native.Nat.{ℕ, suc, _+_, _-_, _≤_}
 use native.Mathlib.Omega.{arith}
 use borrow.Author.Tests.{leb-true, ltb-false, eqb-true, le-ltb}
@@ -75,38 +75,3 @@ shows-parts s a =
       le-ltb 6 (numAt 1 s 5) (a .known),
       a .three,
     )
-
--- ---- the numbers of its refusals
-abbrev AtMostUnknownKind : CommonFields → Type 0
-AtMostUnknownKind (CommonFields.Whole n k) = Unit {0}
-AtMostUnknownKind (CommonFields.Refused r) = r .number ≤ Number.UnknownKind
-
-fields-at-most : (s : List ℕ) → AtMostUnknownKind (readFields s)
-unfolding readFields
-fields-at-most s = go (has 1 s 0) (eqb (numAt 1 s 0) 3) (has 4 s 1) (has 1 s 5)
-  where
-    go : (a b c d : Bool) → AtMostUnknownKind
-        (pick a (pick b (pick c (pick d (CommonFields.Whole (numAt 4 s 1) (numAt 1 s 5)) (CommonFields.Refused (cutAt 5))) (CommonFields.Refused (cutAt 1)))
-        (CommonFields.Refused (refusal Number.BadVersion 0))) (CommonFields.Refused (cutAt 0)))
-    go false b c d = omega arith
-    go true false c d = omega arith
-    go true true false d = omega arith
-    go true true true false = omega arith
-    go true true true true = tt
-
-judged-at-most : (x : CommonFields) → AtMostUnknownKind x → refusalOf (judged x) .number ≤ Number.UnknownKind
-judged-at-most (CommonFields.Whole n k) p = go (ltb 6 k)
-  where
-    go : (a : Bool)
-        → refusalOf (pick a (CommonHeaderAnswer.Refused (refusal Number.UnknownKind 5)) (shown (record { version = 3; length = n; kind = k; tail = [] }))) .number
-        ≤ Number.UnknownKind
-    go true = omega arith
-    go false = omega arith
-judged-at-most (CommonFields.Refused r) p = p
-
-pub number-at-most : (s : List ℕ) → refusalOf (readCommonHeader s) .number ≤ Number.UnknownKind
-number-at-most s = go (ltb Number.limit (length s))
-  where
-    go : (a : Bool) → refusalOf (pick a (CommonHeaderAnswer.Refused (refusal Number.TooLong 0)) (judged (readFields s))) .number ≤ Number.UnknownKind
-    go true = omega arith
-    go false = judged-at-most (readFields s) (fields-at-most s)

@@ -1,3 +1,5 @@
 pub mod Fields
 pub mod Laws
+pub mod Refusals
 pub mod Promises
+pub mod Rfc

@@ -3,17 +3,20 @@ use mathlib.Core.Path.{_≡_, refl, sym, ap, _∙_, subst}
 use mathlib.Core.List.{List}
 use Prim.Native.Nat.{ℕ, _≤_}
 use native.Mathlib.Omega.{arith}
-use Rattle.wire.specs.Number as Number
+use Rattle.wire.specs.Bytes.{be}
 use Rattle.wire.proofs.Bytes.{num-lt, bytes-drop}
+use Rattle.wire.proofs.Arms.{number-of-name}
 use Rattle.wire.proofs.Determined.{determined}
-use Rattle.wire.specs.Exactly.{Sound, Complete, Unique}
-use Rattle.common_header.specs.Grammar.{Reading, join}
-use Rattle.common_header.specs.Shown.{typeOf, kindOf, shown, refusalOf, grammar}
+use Rattle.wire.specs.Refuses.{Refuses}
+use Rattle.wire.specs.Exactly.{Sound, Complete, Told, Unique}
+use Rattle.common_header.specs.Grammar.{Reading, join, grammar}
+use Rattle.common_header.specs.Shown.{names, typeOf, kindOf, shown}
 use Rattle.common_header.specs.Read.{partsOf, readCommonHeader, reader}
 use Rattle.common_header.specs.declared.BmpMsgType.{BmpMsgType}
 use Rattle.common_header.specs.declared.BmpMsgType.the-variants.{RouteMonitoring, StatisticsReport, PeerDownNotification, PeerUpNotification, InitiationMessage, TerminationMessage, RouteMirroringMessage}
 use Rattle.common_header.specs.declared.CommonHeaderAnswer.{CommonHeaderAnswer}
-use Rattle.common_header.proofs.Laws.{length-join, parts-join, join-parts, Accepted, accepted, shows-parts, number-at-most}
+use Rattle.common_header.proofs.Laws.{length-join, parts-join, join-parts, Accepted, accepted, shows-parts}
+use Rattle.common_header.proofs.Refusals as Refusals
 
 -- What the reader accepts has a good reading, which it shows.
 pub sound : Sound reader
@@ -44,9 +47,25 @@ complete r g f short =
     } in
     shows-parts (join r) a ∙ ap shown e
 
--- A refusal has one of the numbers 1 to 4.
-pub refused-at-most : (s : List ℕ) → refusalOf (readCommonHeader s) .number ≤ Number.UnknownKind
-refused-at-most = number-at-most
+-- A type that is known is told by its name.
+pub kind-told : (n : ℕ) → n ≤ 6 → kindOf (typeOf n) ≡ n
+unfolding typeOf kindOf
+kind-told n h = number-of-name kindOf n RouteMirroringMessage names refl (λ k. omega arith)
+
+-- Every good reading is told by the answer that shows it.
+pub told-back : Told reader
+unfolding be
+told-back r g f =
+    let kind-is = kind-told (r .kind) (g .kind-known) in
+    record {
+      told-so = λ i. record { version = r .version; length = r .length; kind = kind-is i; tail = r .tail };
+      tail-so = refl;
+      tail-within = omega (arith, length-join r);
+    }
+
+-- A refusal shows nothing but itself, and has one of the reader's numbers; each of these is given for some input.
+pub refuses : Refuses reader
+refuses = Refusals.refuses
 
 -- No input has two readings.
 pub unique : Unique grammar

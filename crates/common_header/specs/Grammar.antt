@@ -9,6 +9,7 @@ use Prim.Native.Nat.{ℕ, _^_, _≤_, _<_}
 use mathlib.Core.Path.{_≡_}
 use mathlib.Core.List.{List, _++_}
 use Rattle.wire.specs.Bytes.{be, Bytes}
+use Rattle.wire.specs.Exactly.{Grammar, noTable, Nothing, skipsNothing}
 
 pub record Reading : Type 0 where
   pub version : ℕ
@@ -24,3 +25,16 @@ pub record Good (r : Reading) : Type 0 where
   pub length-fits : r .length < 256 ^ 4
   pub kind-known : r .kind ≤ 6
   pub tail-bytes : Bytes (r .tail)
+
+-- the grammar; there is no table, and nothing is skipped
+abbrev pub grammar : Grammar
+grammar =
+    record {
+      Reading = Reading;
+      join = join;
+      Good = Good;
+      Fits = noTable;
+      Skipped = Nothing;
+      skipped = skipsNothing;
+      tail = λ r. r .tail;
+    }

@@ -1,14 +1,15 @@
 -- What the reader answers, for every input.
 use Prim.Native.Nat.{ℕ}
-use mathlib.Core.List.{List, []}
+use mathlib.Core.List.{List, [], _∷_}
 use lib.ListN.{length, drop}
 use lib.Dec.{ltb, eqb}
 use Rattle.wire.specs.Number as Number
 use Rattle.wire.specs.Bytes.{pick, has, numAt}
 use Rattle.wire.specs.Refusal.{refusal, cutAt}
 use Rattle.wire.specs.Exactly.{Reader}
-use Rattle.common_header.specs.Grammar.{Reading}
-use Rattle.common_header.specs.Shown.{shown, grammar, refusalOf}
+use Rattle.common_header.specs.Grammar.{Reading, grammar}
+use Rattle.common_header.specs.Shown.{shown, refusalOf, stopOf}
+use Rattle.common_header.specs.Told.{told}
 use Rattle.common_header.specs.declared.CommonFields.{CommonFields}
 use Rattle.common_header.specs.declared.CommonHeaderAnswer.{CommonHeaderAnswer}
 
@@ -38,6 +39,21 @@ judged (CommonFields.Refused r) = CommonHeaderAnswer.Refused r
 abbrev pub readCommonHeader : List ℕ → CommonHeaderAnswer
 readCommonHeader s = pick (ltb Number.limit (length s)) (CommonHeaderAnswer.Refused (refusal Number.TooLong 0)) (judged (readFields s))
 
+-- the numbers that it refuses with
+abbrev pub numbers : List ℕ
+numbers = Number.TooLong ∷ Number.Cut ∷ Number.BadVersion ∷ Number.UnknownKind ∷ []
+
 -- the reader, and the grammar that it is held against
 abbrev pub reader : Reader
-reader = record { grammar = grammar; Answer = CommonHeaderAnswer; read = readCommonHeader; numberOf = λ a. refusalOf a .number; shown = shown }
+reader =
+    record {
+      grammar = grammar;
+      Answer = CommonHeaderAnswer;
+      read = readCommonHeader;
+      shown = shown;
+      tailAt = stopOf;
+      told = told;
+      refused = CommonHeaderAnswer.Refused;
+      refusalOf = refusalOf;
+      numbers = numbers;
+    }

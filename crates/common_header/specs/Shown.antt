@@ -4,8 +4,7 @@ use mathlib.Core.List.{List, [], _∷_}
 use lib.ListN.{getD}
 use Rattle.wire.specs.Refusal.{noRefusal}
 use Rattle.wire.specs.declared.Refusal.{Refusal}
-use Rattle.wire.specs.Exactly.{Grammar, noTable}
-use Rattle.common_header.specs.Grammar.{Reading, join, Good}
+use Rattle.common_header.specs.Grammar.{Reading}
 use Rattle.common_header.specs.declared.BmpMsgType.{BmpMsgType}
 use Rattle.common_header.specs.declared.BmpMsgType.the-variants.{RouteMonitoring, StatisticsReport, PeerDownNotification, PeerUpNotification, InitiationMessage, TerminationMessage, RouteMirroringMessage}
 use Rattle.common_header.specs.declared.BmpCommonHeader.{BmpCommonHeader}
@@ -47,7 +46,3 @@ zeroHeader = record { version = 0; «msg_len» = 0; «msg_type» = RouteMonitori
 abbrev pub headerOf : CommonHeaderAnswer → BmpCommonHeader
 headerOf (CommonHeaderAnswer.Good h stop) = h
 headerOf (CommonHeaderAnswer.Refused r) = zeroHeader
-
--- the grammar; there is no table
-abbrev pub grammar : Grammar
-grammar = record { Reading = Reading; join = join; Good = Good; Fits = noTable }

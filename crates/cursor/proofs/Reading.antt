@@ -9,7 +9,7 @@ use borrow.Author.Tests.{leb-true, leb-false, le-leb, lt-leb}
 use lib.ListN.{length, drop}
 use Rattle.wire.specs.Bytes.{pick, has, numAt, numberAt}
 use Rattle.wire.specs.Refusal.{cutAt}
-use Rattle.cursor.specs.Read.{Read, got, cut, read, cursor, asU8, asU16, asU32, asU64}
+use Rattle.cursor.specs.Read.{Read, got, cut, read, cursor, asU8, asU16, asU32, asU64, fromU8, fromU16, fromU32, fromU64}
 use Rattle.wire.specs.declared.Refusal.{Refusal}
 use Rattle.cursor.specs.declared.Cursor.{Cursor}
 use Rattle.cursor.specs.declared.ReadU8.{ReadU8}
@@ -51,36 +51,19 @@ was-cut w s at {x} {r} e f = go (has w s at) refl (sym e ∙ f)
 pub was-in : {w : ℕ} {s : List ℕ} {k n : ℕ} {c : Cursor} (at j : ℕ) → k ≡ at + j → Was w s k n c → numAt w (drop at s) j ≡ n
 was-in {w} {s} at j e r = num-drop w j s at ∙ ap (numAt w s) (sym e) ∙ sym (r .number)
 
--- ---- the four enums are one answer in four widths: `told` takes the width off again
-abbrev pub told8 : ReadU8 → Read
-told8 (ReadU8.Good n c) = got n c
-told8 (ReadU8.Cut r) = cut r
+-- ---- what a method's answer tells, from its contract
+pub tells8 : {r : ReadU8} (x : Read) → r ≡ asU8 x → fromU8 r ≡ x
+tells8 (got n c) e = ap fromU8 e
+tells8 (cut r) e = ap fromU8 e
 
-abbrev pub told16 : ReadU16 → Read
-told16 (ReadU16.Good n c) = got n c
-told16 (ReadU16.Cut r) = cut r
+pub tells16 : {r : ReadU16} (x : Read) → r ≡ asU16 x → fromU16 r ≡ x
+tells16 (got n c) e = ap fromU16 e
+tells16 (cut r) e = ap fromU16 e
 
-abbrev pub told32 : ReadU32 → Read
-told32 (ReadU32.Good n c) = got n c
-told32 (ReadU32.Cut r) = cut r
+pub tells32 : {r : ReadU32} (x : Read) → r ≡ asU32 x → fromU32 r ≡ x
+tells32 (got n c) e = ap fromU32 e
+tells32 (cut r) e = ap fromU32 e
 
-abbrev pub told64 : ReadU64 → Read
-told64 (ReadU64.Good n c) = got n c
-told64 (ReadU64.Cut r) = cut r
-
--- what a method's answer tells, from its contract
-pub tells8 : {r : ReadU8} (x : Read) → r ≡ asU8 x → told8 r ≡ x
-tells8 (got n c) e = ap told8 e
-tells8 (cut r) e = ap told8 e
-
-pub tells16 : {r : ReadU16} (x : Read) → r ≡ asU16 x → told16 r ≡ x
-tells16 (got n c) e = ap told16 e
-tells16 (cut r) e = ap told16 e
-
-pub tells32 : {r : ReadU32} (x : Read) → r ≡ asU32 x → told32 r ≡ x
-tells32 (got n c) e = ap told32 e
-tells32 (cut r) e = ap told32 e
-
-pub tells64 : {r : ReadU64} (x : Read) → r ≡ asU64 x → told64 r ≡ x
-tells64 (got n c) e = ap told64 e
-tells64 (cut r) e = ap told64 e
+pub tells64 : {r : ReadU64} (x : Read) → r ≡ asU64 x → fromU64 r ≡ x
+tells64 (got n c) e = ap fromU64 e
+tells64 (cut r) e = ap fromU64 e

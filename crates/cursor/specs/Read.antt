@@ -2,7 +2,7 @@
 use Prim.Native.Nat.{ℕ, _+_}
 use mathlib.Core.List.{List}
 use Rattle.wire.specs.Bytes.{pick, has, numAt}
-use Rattle.wire.specs.Refusal.{cutAt}
+use Rattle.wire.specs.Refusal.{cutAt, noRefusal}
 use Rattle.wire.specs.declared.Refusal.{Refusal}
 use Rattle.cursor.specs.declared.Cursor.{Cursor}
 use Rattle.cursor.specs.declared.ReadU8.{ReadU8}
@@ -36,3 +36,33 @@ asU32 (cut r) = ReadU32.Cut r
 abbrev pub asU64 : Read → ReadU64
 asU64 (got n c) = ReadU64.Good n c
 asU64 (cut r) = ReadU64.Cut r
+
+-- and back: the four enums are one answer in four widths
+abbrev pub fromU8 : ReadU8 → Read
+fromU8 (ReadU8.Good n c) = got n c
+fromU8 (ReadU8.Cut r) = cut r
+
+abbrev pub fromU16 : ReadU16 → Read
+fromU16 (ReadU16.Good n c) = got n c
+fromU16 (ReadU16.Cut r) = cut r
+
+abbrev pub fromU32 : ReadU32 → Read
+fromU32 (ReadU32.Good n c) = got n c
+fromU32 (ReadU32.Cut r) = cut r
+
+abbrev pub fromU64 : ReadU64 → Read
+fromU64 (ReadU64.Good n c) = got n c
+fromU64 (ReadU64.Cut r) = cut r
+
+-- what an answer says: its refusal, the number that was read, and the cursor past it, all zero where it is Cut
+abbrev pub refusalOf : Read → Refusal
+refusalOf (got n c) = noRefusal
+refusalOf (cut r) = r
+
+abbrev pub valueOf : Read → ℕ
+valueOf (got n c) = n
+valueOf (cut r) = 0
+
+abbrev pub nextOf : Read → Cursor
+nextOf (got n c) = c
+nextOf (cut r) = cursor 0

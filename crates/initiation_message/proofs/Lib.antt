@@ -1,4 +1,7 @@
 pub mod Steps
 pub mod Laws
 pub mod Shows
+pub mod Told
+pub mod Refusals
 pub mod Promises
+pub mod Rfc

@@ -1,22 +1,28 @@
 -- What a user of the Initiation body relies on. Assumes nothing.
 use mathlib.Core.Path.{_≡_, refl}
 use mathlib.Core.List.{List}
-use Prim.Native.Nat.{ℕ}
-use lib.ListN.{length}
-use Rattle.wire.specs.Parts.{AllAt}
+use Prim.Native.Nat.{ℕ, _≤_, _<_}
+use lib.ListN.{length, drop, take}
+use Rattle.wire.specs.Parts.{AllAt, endFrom}
 use Rattle.wire.specs.Tlv.{sizeOf, putTail}
 use Rattle.wire.proofs.Determined.{determined}
 use Rattle.wire.proofs.Exactly.{not-too-long}
 use Rattle.wire.proofs.Tlv.{tlv-viewed}
 use Rattle.wire.proofs.Walk.{read-complete, each-at, read-accepted}
 use Rattle.wire.proofs.Walk as Walk
-use Rattle.wire.specs.Exactly.{Sound, Complete, Unique}
-use Rattle.initiation_message.specs.Grammar.{Reading, join, Good}
-use Rattle.initiation_message.specs.Shown.{grammar}
+use Rattle.wire.specs.Refuses.{Refuses}
+use Rattle.wire.specs.Exactly.{Sound, Complete, Told, Unique}
+use Rattle.wire.specs.Number as Number
+use Rattle.wire.specs.Refusal.{refusal}
+use Rattle.wire.specs.TlvAt.{unread}
+use Rattle.initiation_message.specs.Grammar.{Reading, join, Good, grammar, places}
 use Rattle.initiation_message.specs.Read.{kit, readInitiation, reader, answer}
 use Rattle.initiation_message.specs.declared.InitiationAnswer.{InitiationAnswer}
+use Rattle.initiation_message.specs.Shown.{refusedAnswer, shown}
 use Rattle.initiation_message.proofs.Laws.{faults, laws, tails}
 use Rattle.initiation_message.proofs.Shows.{shows-of, ViewAt}
+use Rattle.initiation_message.proofs.Told as ToldProofs
+use Rattle.initiation_message.proofs.Refusals as Refusals
 
 -- What the reader accepts has a good reading that fits, and it shows that reading.
 pub sound : Sound reader
@@ -29,6 +35,23 @@ sound s p e =
 pub complete : Complete reader
 complete r g f short =
     shows-of (join r) short (r .tlvs) (r .tail) (read-complete kit laws tails 0 (join r) (r .tlvs) (r .tail) (g .each) (g .tail-good) refl f) .shown-so
+
+-- Every good reading that fits is told by the answer that shows it, and the tail.
+pub told-back : Told reader
+told-back = ToldProofs.told-back
+
+-- A refusal shows nothing but itself, and has one of the reader's numbers; each of these is given for some input.
+pub refuses : Refuses reader
+refuses = Refusals.refuses
+
+-- A good reading of more TLVs than the table holds is refused with TooMany, at the first that has no room.
+pub too-many : (r : Reading) → Good r → length (join r) ≤ Number.limit → places < length (r .tlvs)
+    → readInitiation (join r) ≡ refusedAnswer (refusal Number.TooMany (endFrom sizeOf 0 (take places (r .tlvs))))
+too-many = Refusals.too-many
+
+-- What follows the stop is the tail, or what is there of the value of an oversized TLV.
+pub stop-told : (r : Reading) → Good r → drop (shown r .stop) (join r) ≡ unread (r .tail)
+stop-told = ToldProofs.stop-told
 
 -- No input has two readings, whatever the table holds.
 pub unique : Unique grammar

@@ -14,7 +14,7 @@ use Rattle.initiation_message.specs.Shown.{entry, shown}
 use Rattle.initiation_message.specs.Read.{kit, answer, reader}
 use Rattle.initiation_message.proofs.Laws.{laws, tails}
 
-pub shows-of : (s : List ℕ) → length s ≤ Number.limit → (l : List Tlv) (t : Tail) → Walk.Accepts kit laws tails 0 s l t → Shows reader s (record { tlvs = l; tail = t })
+pub shows-of : (s : List ℕ) → length s ≤ Number.limit → (l : List Tlv) (t : Tail) → Walk.ShowsItems kit laws tails 0 s l t → Shows reader s (record { tlvs = l; tail = t })
 shows-of s h l t a =
     record {
       reading = record { is-good = record { each = a .each; tail-good = a .tail-good }; fits = a .few; joined = a .joined };

@@ -11,15 +11,15 @@ use lib.ListN.{length, drop, length-drop}
 use Rattle.wire.specs.Bytes.{pick, numAt}
 use Rattle.cursor.specs.Read.{cursor}
 use Rattle.wire.specs.View.{view}
-use Rattle.wire.specs.Tlv.{Tlv, sizeOf, stopAt}
-use Rattle.wire.specs.TlvAt.{tlvOf, tailOf}
+use Rattle.wire.specs.Tlv.{Tlv, sizeOf}
+use Rattle.wire.specs.TlvAt.{tlvOf, tailOf, stopAt}
 use Rattle.wire.specs.Walk as Walk
 use Rattle.wire.specs.Walk.{stop, bad, item}
 use Rattle.wire.specs.declared.Refusal.{Refusal}
 use Rattle.cursor.specs.declared.Cursor.{Cursor}
 use Rattle.wire.proofs.Tlv.{NoTlv}
 use Rattle.initiation_message.specs.Shown.{typeOf, entry}
-use Rattle.initiation_message.specs.Read.{step, told, stepAt}
+use Rattle.initiation_message.specs.Read.{step, asStep, stepAt}
 use Rattle.initiation_message.specs.declared.InitiationTlv.{InitiationTlv}
 use Rattle.initiation_message.specs.declared.Step.the-variants.{Stop, Whole}
 
@@ -79,23 +79,23 @@ module _ (s : List ℕ) (at : ℕ) where
         → stepAt s at ≡ Whole (record { «info_type» = typeOf kind; «info_len» = size; info = view place size }) (cursor (place + size))
     whole-at kind kind-is h =
         let end-is : at + (4 + numAt 2 (drop at s) 2) ≡ place + size = omega arith in
-        ap (told at (drop at s)) (of (drop at s) (whole long′ (rw (length-drop, size-is) (omega arith))))
+        ap (asStep at (drop at s)) (of (drop at s) (whole long′ (rw (length-drop, size-is) (omega arith))))
         ∙ (λ i. Whole (record { «info_type» = typeOf (kind-is i); «info_len» = size-is i; info = view (sym place-is i) (size-is i) }) (cursor (end-is i)))
 
 -- ---- and the other way
-pub was-stop : (at p : ℕ) (s : List ℕ) → told at s (step s) ≡ Stop p → (step s ≡ stop) × (p ≡ stopAt at (tailOf s))
+pub was-stop : (at p : ℕ) (s : List ℕ) → asStep at s (step s) ≡ Stop p → (step s ≡ stop) × (p ≡ stopAt at (tailOf s))
 was-stop at p s e = go (step s) refl e
   where
-    go : (x : Walk.Step Tlv) → step s ≡ x → told at s x ≡ Stop p → (step s ≡ stop) × (p ≡ stopAt at (tailOf s))
+    go : (x : Walk.Step Tlv) → step s ≡ x → asStep at s x ≡ Stop p → (step s ≡ stop) × (p ≡ stopAt at (tailOf s))
     go stop h q = (h, cc)
     go (bad r) h q = absurd (no-fault s r (see s) h)
     go (item t) h q = (cc, cc)
 
-pub was-whole : (at : ℕ) (u : InitiationTlv) (c : Cursor) (s : List ℕ) → told at s (step s) ≡ Whole u c
+pub was-whole : (at : ℕ) (u : InitiationTlv) (c : Cursor) (s : List ℕ) → asStep at s (step s) ≡ Whole u c
     → (t : Tlv) × (step s ≡ item t) × (entry at t ≡ u) × (at + sizeOf t ≡ c .at)
 was-whole at u c s e = go (step s) refl e
   where
-    go : (x : Walk.Step Tlv) → step s ≡ x → told at s x ≡ Whole u c → (t : Tlv) × (step s ≡ item t) × (entry at t ≡ u) × (at + sizeOf t ≡ c .at)
+    go : (x : Walk.Step Tlv) → step s ≡ x → asStep at s x ≡ Whole u c → (t : Tlv) × (step s ≡ item t) × (entry at t ≡ u) × (at + sizeOf t ≡ c .at)
     go stop h q = (tlvOf s, cc, cc, cc)
     go (bad r) h q = absurd (no-fault s r (see s) h)
     go (item t) h q = (t, h, cc, cc)

@@ -1,18 +1,20 @@
 -- What the reader answers, for every input.
 use Prim.Native.Nat.{ℕ, _+_, _-_}
-use mathlib.Core.List.{List}
+use mathlib.Core.List.{List, [], _∷_}
 use lib.ListN.{length, drop}
 use lib.Dec.{leb, ltb}
 use Rattle.wire.specs.Number as Number
 use Rattle.wire.specs.Bytes.{pick, numAt}
 use Rattle.wire.specs.Refusal.{refusal}
 use Rattle.cursor.specs.Read.{cursor}
-use Rattle.wire.specs.Tlv.{Tlv, sizeOf, stopAt}
-use Rattle.wire.specs.TlvAt.{tlvOf, tailOf}
+use Rattle.wire.specs.Tlv.{Tlv, sizeOf}
+use Rattle.wire.specs.TlvAt.{tlvOf, tailOf, stopAt}
 use Rattle.wire.specs.Walk as Walk
 use Rattle.wire.specs.Walk.{stop, bad, item, Kit, Out, good, refused, readFrom}
 use Rattle.wire.specs.Exactly.{Reader}
-use Rattle.initiation_message.specs.Shown.{places, entry, zeroTlv, goodAnswer, refusedAnswer, grammar, shown}
+use Rattle.initiation_message.specs.Told as Told
+use Rattle.initiation_message.specs.Grammar.{places, grammar}
+use Rattle.initiation_message.specs.Shown.{entry, zeroTlv, goodAnswer, refusedAnswer, shown}
 use Rattle.initiation_message.specs.declared.InitiationTlv.{InitiationTlv}
 use Rattle.initiation_message.specs.declared.InitiationAnswer.{InitiationAnswer}
 use Rattle.initiation_message.specs.declared.Step.{Step}
@@ -26,13 +28,13 @@ abbrev pub kit : Kit
 kit = record { Item = Tlv; Entry = InitiationTlv; step = step; size = sizeOf; entry = entry; none = zeroTlv; limit = places }
 
 -- one step at a place, as the code answers it: the stop, or the entry and the cursor past it; there is no fault
-abbrev pub told : ℕ → List ℕ → Walk.Step Tlv → Step
-told at s stop = Stop (stopAt at (tailOf s))
-told at s (bad r) = Stop 0
-told at s (item t) = Whole (entry at t) (cursor (at + sizeOf t))
+abbrev pub asStep : ℕ → List ℕ → Walk.Step Tlv → Step
+asStep at s stop = Stop (stopAt at (tailOf s))
+asStep at s (bad r) = Stop 0
+asStep at s (item t) = Whole (entry at t) (cursor (at + sizeOf t))
 
 abbrev pub stepAt : List ℕ → ℕ → Step
-stepAt s at = told at (drop at s) (step (drop at s))
+stepAt s at = asStep at (drop at s) (step (drop at s))
 
 abbrev pub answer : Out InitiationTlv → InitiationAnswer
 answer (good n at table z) = goodAnswer n at table (tailOf z)
@@ -42,6 +44,21 @@ abbrev pub readInitiation : List ℕ → InitiationAnswer
 readInitiation s =
     pick (ltb Number.limit (length s)) (refusedAnswer (refusal Number.TooLong 0)) (answer (readFrom kit (length s) 0 s))
 
+-- the numbers that it refuses with
+abbrev pub numbers : List ℕ
+numbers = Number.TooLong ∷ Number.TooMany ∷ []
+
 -- the reader, and the grammar that it is held against
 abbrev pub reader : Reader
-reader = record { grammar = grammar; Answer = InitiationAnswer; read = readInitiation; numberOf = λ a. a .refusal .number; shown = shown }
+reader =
+    record {
+      grammar = grammar;
+      Answer = InitiationAnswer;
+      read = readInitiation;
+      shown = shown;
+      tailAt = λ a. a .tail;
+      told = Told.told;
+      refused = refusedAnswer;
+      refusalOf = λ a. a .refusal;
+      numbers = numbers;
+    }

@@ -1,14 +1,14 @@
 -- How a reading is shown in the answer. Nothing here takes an input apart.
-use Prim.Native.Nat.{ℕ, _+_, _-_, _≤_}
+use Prim.Native.Nat.{ℕ, _+_, _-_}
 use mathlib.Core.List.{List, [], _∷_, _++_}
 use lib.ListN.{length, replicate, getD}
 use Rattle.wire.specs.Refusal.{noRefusal}
 use Rattle.wire.specs.View.{view}
 use Rattle.wire.specs.Parts.{shownFrom, endFrom}
-use Rattle.wire.specs.Tlv.{Tlv, sizeOf, Tail, stopAt}
+use Rattle.wire.specs.TlvAt.{stopAt}
+use Rattle.wire.specs.Tlv.{Tlv, sizeOf, Tail}
 use Rattle.wire.specs.declared.Refusal.{Refusal}
-use Rattle.wire.specs.Exactly.{Grammar}
-use Rattle.initiation_message.specs.Grammar.{Reading, join, Good}
+use Rattle.initiation_message.specs.Grammar.{Reading, places}
 use Rattle.initiation_message.specs.declared.InitiationTlvType.{InitiationTlvType}
 use Rattle.initiation_message.specs.declared.InitiationTlvType.the-variants.{String, SysDescr, SysName, VrTableName, AdminLabel, Unknown}
 use Rattle.initiation_message.specs.declared.InitiationTlv.{InitiationTlv}
@@ -32,10 +32,6 @@ kindOf (Unknown n) = n
 abbrev pub zeroTlv : InitiationTlv
 zeroTlv = record { «info_type» = String; «info_len» = 0; info = view 0 0 }
 
--- the table has 32 entries
-abbrev pub places : ℕ
-places = 32
-
 unfoldable pub zeroTable : List InitiationTlv
 zeroTable = replicate places zeroTlv
 
@@ -50,16 +46,8 @@ goodAnswer count end table t =
 abbrev pub refusedAnswer : Refusal → InitiationAnswer
 refusedAnswer r = record { refusal = r; stop = 0; tail = 0; message = record { tlvs = zeroTable; count = 0 } }
 
--- a reading fits the table
-abbrev pub Fits : Reading → Type 0
-Fits r = length (r .tlvs) ≤ places
-
 -- the good answer: the TLVs in order, entries past the count zero, the tail's start where the last TLV ends
 abbrev pub shown : Reading → InitiationAnswer
 shown r =
     goodAnswer (length (r .tlvs)) (endFrom sizeOf 0 (r .tlvs))
     (shownFrom sizeOf entry 0 (r .tlvs) ++ replicate (places - length (r .tlvs)) zeroTlv) (r .tail)
-
--- the grammar, with what fits the table
-abbrev pub grammar : Grammar
-grammar = record { Reading = Reading; join = join; Good = Good; Fits = Fits }

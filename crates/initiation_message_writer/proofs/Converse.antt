@@ -16,15 +16,16 @@ use Rattle.writing.proofs.Table.{kept-each}
 use Rattle.writing.proofs.Trip.{table-back}
 use Rattle.tlv_table.proofs.Written.{good-fits}
 use Rattle.tlv_table.proofs.Translated.{no-tail-translated}
-use Rattle.initiation_message.specs.Grammar.{Reading, join, ReadTlv}
-use Rattle.initiation_message.specs.Shown.{kindOf, zeroTlv, places, entry}
+use Rattle.initiation_message.proofs.Told.{kind-told}
+use Rattle.initiation_message.specs.Grammar.{Reading, join, ReadTlv, places}
+use Rattle.initiation_message.specs.Shown.{kindOf, zeroTlv, entry}
 use Rattle.initiation_message_writer.specs.Write.{valueOf, partOf, writer, kept, bytesOf, writable, entryOf, SameTlv, Same}
 use Rattle.initiation_message.specs.declared.InitiationTlv.{InitiationTlv}
 use Rattle.initiation_message.specs.declared.InitiationMessage.{InitiationMessage}
 use Rattle.initiation_message.specs.declared.InitiationAnswer.{InitiationAnswer}
 use Rattle.initiation_message_writer.proofs.Written.{fine-from, translates}
 use Rattle.initiation_message.proofs.Shows.{ViewAt}
-use Rattle.initiation_message_writer.proofs.Trip.{kindOf-typeOf, ReadsBack}
+use Rattle.initiation_message_writer.proofs.Trip.{ReadsBack}
 
 abbrev pub Inside : List ℕ → InitiationTlv → Type 0
 Inside b t = t .info .place + t .info .length ≤ length b
@@ -48,7 +49,7 @@ all-fine b (t ∷ l) g h =
 -- an item that is shown as an entry is that entry's
 one-part : (b s : List ℕ) (at : ℕ) (x : Tlv) (t : InitiationTlv) → ViewAt s at x → SameTlv t b (entry at x) s → x ≡ partOf b t
 one-part b s at x t v e =
-    let kind-is : x .kind ≡ kindOf (t .«info_type») = sym (e .kind-same ∙ kindOf-typeOf (x .kind)) in
+    let kind-is : x .kind ≡ kindOf (t .«info_type») = sym (e .kind-same ∙ kind-told (x .kind)) in
     let value-is : x .value ≡ valueOf b t = sym (e .bytes-same ∙ v) in
     λ i. record { kind = kind-is i; size = sym (e .len-same) i; value = value-is i }
 

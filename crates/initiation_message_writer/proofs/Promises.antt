@@ -13,7 +13,8 @@ use Rattle.writing.specs.declared.WriteAnswer.the-variants.{Written}
 use Rattle.writing.proofs.Answers.{front, wrote-determined}
 use Rattle.writing.proofs.Table.{length-parts, kept-of}
 use Rattle.tlv_table.proofs.Translated.{bytes-translated}
-use Rattle.initiation_message.specs.Shown.{zeroTlv, places}
+use Rattle.initiation_message.specs.Grammar.{places}
+use Rattle.initiation_message.specs.Shown.{zeroTlv}
 use Rattle.initiation_message_writer.specs.Write.{writer, kept, readingOf, bytesOf, writable, entryOf}
 use Rattle.initiation_message.specs.declared.InitiationMessage.{InitiationMessage}
 use Rattle.initiation_message_writer.proofs.Written.{translates}

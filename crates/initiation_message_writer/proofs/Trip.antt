@@ -2,7 +2,7 @@
 use mathlib.Core.Path.{_≡_, refl, sym, ap, _∙_, subst}
 use mathlib.Core.Bool.{true, false}
 use mathlib.Core.List.{List}
-use Prim.Native.Nat.{ℕ, zero, suc, _≤_}
+use Prim.Native.Nat.{ℕ, _≤_}
 use native.Mathlib.Omega.{arith}
 use lib.ListN.{length}
 use lib.Seq.{length-take-le}
@@ -16,8 +16,9 @@ use Rattle.writing.proofs.Tlv.{tlv-good}
 use Rattle.writing.proofs.Table.{all-good, length-parts, length-sizes, Kept}
 use Rattle.writing.proofs.Trip.{table-same, end-sizes}
 use Rattle.tlv_table.proofs.Translated.{length-translated}
-use Rattle.initiation_message.specs.Grammar.{ReadTlv, Good}
-use Rattle.initiation_message.specs.Shown.{typeOf, kindOf, zeroTlv, places, entry, shown}
+use Rattle.initiation_message.proofs.Told.{kind-told}
+use Rattle.initiation_message.specs.Grammar.{ReadTlv, Good, places}
+use Rattle.initiation_message.specs.Shown.{kindOf, zeroTlv, entry, shown}
 use Rattle.initiation_message.specs.Read.{readInitiation}
 use Rattle.initiation_message_writer.specs.Write.{partOf, tlvWritable, writer, kept, readingOf, bytesOf, entryOf, SameTlv, Same}
 use Rattle.initiation_message.specs.declared.InitiationTlv.{InitiationTlv}
@@ -39,17 +40,8 @@ read-tlv b p t l e w =
 pub good-of : (m : InitiationMessage) (b : List ℕ) → Bytes b → allOk writer (length b) (kept m) ≡ true → Good (readingOf m b)
 good-of m b p e = record { each = all-good writer ReadTlv b (read-tlv b p) (kept m) e; tail-good = (omega arith, none) }
 
-pub kindOf-typeOf : (n : ℕ) → kindOf (typeOf n) ≡ n
-unfolding typeOf kindOf
-kindOf-typeOf zero = refl
-kindOf-typeOf (suc zero) = refl
-kindOf-typeOf (suc (suc zero)) = refl
-kindOf-typeOf (suc (suc (suc zero))) = refl
-kindOf-typeOf (suc (suc (suc (suc zero)))) = refl
-kindOf-typeOf (suc (suc (suc (suc (suc n))))) = refl
-
 same-tlv : (b s : List ℕ) (n at : ℕ) (t : InitiationTlv) → tlvWritable (length b) n t ≡ true → ViewAt s at (partOf b t) → SameTlv t b (entry at (partOf b t)) s
-same-tlv b s n at t o v = record { kind-same = sym (kindOf-typeOf (kindOf (t .«info_type»))); len-same = refl; bytes-same = sym v }
+same-tlv b s n at t o v = record { kind-same = sym (kind-told (kindOf (t .«info_type»))); len-same = refl; bytes-same = sym v }
 
 -- the bytes s are read as the record m, whose views point into b, to their end
 pub record ReadsBack (m : InitiationMessage) (b s : List ℕ) : Type 0 where

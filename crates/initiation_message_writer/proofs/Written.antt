@@ -12,7 +12,8 @@ use denote.Struct.Laws as Struct
 use Rattle.tlv_table.specs.Tlvs.{entryWritable}
 use Rattle.tlv_table.proofs.Walked.{WalkedTlvFits, walked-of, walked-from}
 use Rattle.tlv_table.proofs.Translated.{Translates}
-use Rattle.initiation_message.specs.Shown.{kindOf, places}
+use Rattle.initiation_message.specs.Grammar.{places}
+use Rattle.initiation_message.specs.Shown.{kindOf}
 use Rattle.initiation_message_writer.specs.Write.{tlvWritable, writer, entryOf}
 use Rattle.initiation_message.specs.declared.InitiationTlv.{InitiationTlv}
 use Rattle.initiation_message.specs.declared.InitiationMessage.{InitiationMessage}

@@ -13,8 +13,8 @@ use Rattle.tlv_table.specs.Tlvs.{walkedTlvFits}
 use Rattle.tlv_table.specs.declared.TlvValue.the-variants.{Part}
 use Rattle.tlv_table.specs.declared.TlvEntry.{TlvEntry}
 use Rattle.tlv_table.specs.declared.TlvTable.{TlvTable}
-use Rattle.initiation_message.specs.Grammar.{Reading, join}
-use Rattle.initiation_message.specs.Shown.{kindOf, zeroTlv, places}
+use Rattle.initiation_message.specs.Grammar.{Reading, join, places}
+use Rattle.initiation_message.specs.Shown.{kindOf, zeroTlv}
 use Rattle.initiation_message.specs.declared.InitiationTlv.{InitiationTlv}
 use Rattle.initiation_message.specs.declared.InitiationMessage.{InitiationMessage}
 

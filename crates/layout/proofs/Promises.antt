@@ -1,25 +1,16 @@
 -- What a user of the crate relies on. Assumes nothing.
 use mathlib.Core.Path.{_≡_, refl, ap}
 use mathlib.Core.Bool.{Bool, true, false}
-use mathlib.Core.List.{List, [], _∷_, _++_}
+use mathlib.Core.List.{List, [], _∷_}
 use Prim.Native.Nat.{ℕ, _+_, _≤_, _<_}
 use native.Mathlib.Omega.{arith}
 use borrow.Author.Tests.{leb-true, leb-false}
 use lib.Dec.{leb}
 use Rattle.wire.specs.Bytes.{pick}
+use Rattle.wire.specs.Lacking.{total, FirstLacking}
 use Rattle.wire.specs.declared.Refusal.{Refusal}
 use Rattle.wire.proofs.Determined.{determined}
-use Rattle.layout.specs.Layout.{total, firstCut, cutIn, sixteenAt}
-
--- The first field of a run that lacks bytes: those before it lie whole in n bytes, and it does not.
-pub record FirstLacking (ws : List ℕ) (at n place : ℕ) : Type 0 where
-  pub before : List ℕ
-  pub width : ℕ
-  pub behind : List ℕ
-  pub run-is : ws ≡ before ++ width ∷ behind
-  pub place-is : place ≡ at + total before
-  pub starts-inside : place ≤ n
-  pub ends-outside : n < place + width
+use Rattle.layout.specs.Layout.{firstCut, cutIn, sixteenAt}
 
 -- A run of fields that does not lie whole in the input is cut at the first field that lacks bytes.
 pub first-lacking : (ws : List ℕ) (at n : ℕ) → at ≤ n → n < at + total ws → FirstLacking ws at n (firstCut ws at n)

@@ -7,11 +7,6 @@ use Rattle.wire.specs.Bytes.{pick, has}
 use Rattle.wire.specs.Refusal.{cutAt}
 use Rattle.wire.specs.declared.Refusal.{Refusal}
 
--- how many bytes the fields take
-abbrev pub total : List ℕ → ℕ
-total [] = 0
-total (w ∷ ws) = w + total ws
-
 -- The place of the first field that does not lie whole in n bytes, where the first of them starts at a place; the end of the
 -- run, where each of them does.
 abbrev pub firstCut : List ℕ → ℕ → ℕ → ℕ

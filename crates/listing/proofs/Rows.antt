@@ -22,10 +22,12 @@ use Rattle.splitter.specs.Shown.{refusalOf}
 use Rattle.splitter.specs.Read.{afterHeader, splitOf}
 use Rattle.splitter.specs.declared.SplitAnswer.{SplitAnswer}
 use Rattle.splitter.proofs.Laws.{Fitting, fitting-shown, judged-good}
-use Rattle.splitter.proofs.Promises.{refused-at-most}
+use Rattle.wire.proofs.Refuses.{numbers-below}
+use Rattle.splitter.specs.Read as SplitterRead
+use Rattle.splitter.proofs.Promises as Splitter
 use Rattle.message_answer.proofs.Promises.{answer-small}
 use Rattle.listing.specs.Text.{messageLine, refusedLine, endLine}
-use Rattle.listing.specs.Listing.{Message, told, step, kit, lines}
+use Rattle.listing.specs.Listing.{Message, asStep, step, kit, lines}
 use Rattle.listing.specs.Steps.{linesFrom, rowOf, rowAt}
 use Rattle.listing.specs.declared.Row.{Row}
 
@@ -61,7 +63,7 @@ pub data Seen (s : List ℕ) : Step Message → Type 0 where
 pub see : (s : List ℕ) → Seen s (step s)
 see s = go (eqb (length s) 0) refl (splitOf s) refl
   where
-    go : (b : Bool) → eqb (length s) 0 ≡ b → (x : SplitAnswer) → splitOf s ≡ x → Seen s (pick b stop (told s x))
+    go : (b : Bool) → eqb (length s) 0 ≡ b → (x : SplitAnswer) → splitOf s ≡ x → Seen s (pick b stop (asStep s x))
     go true e x q = none (eqb-true (length s) 0 e)
     go false e (SplitAnswer.Refused r) q = refused r q
     go false e (SplitAnswer.Message h v) q = message h v q
@@ -74,7 +76,7 @@ Tells s (Row.Message k n a) = ((6 ≤ n) × (n ≤ length s)) × ((k ≤ 6) × (
 
 tells-of : (s : List ℕ) {x : Step Message} → Seen s x → Tells s (rowOf x)
 tells-of s (none e) = e
-tells-of s (refused r e) = subst (λ (x : SplitAnswer). refusalOf x .number ≤ 10) e (refused-at-most s)
+tells-of s (refused r e) = let h = numbers-below SplitterRead.reader Splitter.refuses 11 refl s in subst (λ (x : SplitAnswer). refusalOf x .number ≤ 10) e (omega (arith, h))
 tells-of s (message h v e) =
     let f = split-off s h v e .fits in
     ((f .least, f .all-there), (kind-known (h .«msg_type»), answer-small (h .«msg_type») (drop 6 (viewed s v))))

@@ -29,13 +29,13 @@ abbrev pub answer : Message → ℕ
 answer m = answerOf (m .header .«msg_type») (drop 6 (m .bytes))
 
 -- ---- the messages of a stream
-abbrev pub told : List ℕ → SplitAnswer → Step Message
-told s (SplitAnswer.Message h v) = item (record { header = h; bytes = viewed s v })
-told s (SplitAnswer.Refused r) = bad r
+abbrev pub asStep : List ℕ → SplitAnswer → Step Message
+asStep s (SplitAnswer.Message h v) = item (record { header = h; bytes = viewed s v })
+asStep s (SplitAnswer.Refused r) = bad r
 
 -- the splitter is asked while bytes are left
 abbrev pub step : List ℕ → Step Message
-step s = pick (eqb (length s) 0) stop (told s (splitOf s))
+step s = pick (eqb (length s) 0) stop (asStep s (splitOf s))
 
 -- a walk that fills no table
 abbrev pub kit : Kit

@@ -13,7 +13,7 @@ use Rattle.per_peer_header.specs.Grammar as Header
 use Rattle.initiation_message.specs.declared.InitiationAnswer.{InitiationAnswer}
 use Rattle.termination_message.specs.declared.TerminationAnswer.{TerminationAnswer}
 use Rattle.exactly.proofs.Promises.{initiation-exactly, termination-exactly}
-use Rattle.message_answer.specs.Grammar.{Body, Message, initiation, termination, of-a-peer, HasReading}
+use Rattle.message_answer.specs.Grammar.{Body, Message, initiation, termination, of-a-peer, HasReading, GoodExactly}
 use Rattle.message_answer.specs.Answer.{peerNumber, answerOf}
 use Rattle.message_answer.specs.declared.PeerBody.{PeerBody}
 use Rattle.message_answer.specs.declared.PeerBody.the-variants.{Monitoring, Statistics, Down, Up, Mirroring}
@@ -62,7 +62,7 @@ answer-complete TerminationMessage s (termination x) n = termination-exactly .al
 answer-complete RouteMirroringMessage s (of-a-peer h g joined x) n = from-peer Mirroring s h g joined x n
 
 -- The number is 0 exactly where header and body have readings that fit their tables, and there are not too many bytes.
-pub answer-good : (t : BmpMsgType) (s : List ℕ) → Bytes s → (answerOf t s ≡ Number.Good → HasReading t s) × (HasReading t s → answerOf t s ≡ Number.Good)
+pub answer-good : (t : BmpMsgType) (s : List ℕ) → Bytes s → GoodExactly t s (answerOf t s)
 answer-good t s p = (answer-sound t s p, λ x. answer-complete t s (x .message) (x .not-too-long))
 
 -- The number is one byte.

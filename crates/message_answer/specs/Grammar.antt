@@ -16,13 +16,13 @@ use Rattle.common_header.specs.declared.BmpMsgType.{BmpMsgType}
 use Rattle.common_header.specs.declared.BmpMsgType.the-variants.{RouteMonitoring, StatisticsReport, PeerDownNotification, PeerUpNotification, InitiationMessage, TerminationMessage, RouteMirroringMessage}
 use Rattle.per_peer_header.specs.Grammar as Header
 use Rattle.per_peer_header.specs.Grammar.{AddressField, ipv4, ipv6, unused}
-use Rattle.route_monitoring.specs.Shown as Monitoring
-use Rattle.stats_report.specs.Shown as Statistics
-use Rattle.peer_down_notification.specs.Shown as Down
-use Rattle.peer_up_notification.specs.Shown as Up
-use Rattle.initiation_message.specs.Shown as Initiation
-use Rattle.termination_message.specs.Shown as Termination
-use Rattle.route_mirroring.specs.Shown as Mirroring
+use Rattle.route_monitoring.specs.Grammar as Monitoring
+use Rattle.stats_report.specs.Grammar as Statistics
+use Rattle.peer_down_notification.specs.Grammar as Down
+use Rattle.peer_up_notification.specs.Grammar as Up
+use Rattle.initiation_message.specs.Grammar as Initiation
+use Rattle.termination_message.specs.Grammar as Termination
+use Rattle.route_mirroring.specs.Grammar as Mirroring
 
 -- the family of the local address in a Peer Up is that of the address in its header; a Loc-RIB, which has none there, counts as IPv4
 abbrev pub familyOf : AddressField → Afi
@@ -46,3 +46,7 @@ pub data Message : BmpMsgType → List ℕ → Type 0 where
 pub record HasReading (t : BmpMsgType) (s : List ℕ) : Type 0 where
   pub not-too-long : length s ≤ Number.limit
   pub message : Message t s
+
+-- a number is 0 exactly where there is a reading
+abbrev pub GoodExactly : BmpMsgType → List ℕ → ℕ → Type 0
+GoodExactly t s n = (n ≡ Number.Good → HasReading t s) × (HasReading t s → n ≡ Number.Good)

@@ -10,6 +10,7 @@ ghost use Rattle.route_monitoring.specs.Shown as MonitoringShown;
 ghost use Rattle.route_monitoring.specs.Read.{readRouteMonitoring};
 ghost use Rattle.peer_down_notification.specs.Shown as DownShown;
 ghost use Rattle.peer_down_notification.specs.Read.{readPeerDown};
+ghost use Rattle.message_answer.specs.Grammar.{GoodExactly};
 ghost use Rattle.message_answer.specs.Answer.{bodyNumber, peerNumber, answerOf};
 
 // The bodies that stand behind a per-peer header.
@@ -21,8 +22,15 @@ enum PeerBody {
     Mirroring,
 }
 
-// What follows the common header of a message of this type.
+// What follows the common header of a message of this type; 0 exactly where it has a reading.
 pub fn answer_of(msg_type: BmpMsgType, rest: &[u8]) -> u8
+    ensures { λ r. ⌜ r ≡ answerOf «msg_type» (now (rest .entry)) ⌝ }
+    ensures { λ r. ⌜ GoodExactly «msg_type» (now (rest .entry)) r ⌝ }
+{
+    number_of(msg_type, rest)
+}
+
+fn number_of(msg_type: BmpMsgType, rest: &[u8]) -> u8
     ensures { λ r. ⌜ r ≡ answerOf «msg_type» (now (rest .entry)) ⌝ }
 {
     match msg_type {

@@ -5,9 +5,9 @@ use mathlib.Core.Path.{_≡_, refl}
 use Rattle.addresses.specs.Address.{routerIp}
 use Rattle.models.specs.declared.Afi.{Afi}
 use Rattle.models.specs.declared.Afi.the-variants.{Ipv4, Ipv6}
-use Rattle.openbmp.specs.Shown.{shownIp}
+use Rattle.openbmp.specs.Shown.{shownRouterIp}
 use Rattle.openbmp.specs.Read.{routerIpOf}
 
-pub router-ip-shown : (afi : Afi) (octets : List ℕ) → routerIp afi octets ≡ shownIp (routerIpOf afi octets)
+pub router-ip-shown : (afi : Afi) (octets : List ℕ) → routerIp afi octets ≡ shownRouterIp (routerIpOf afi octets)
 router-ip-shown Ipv4 octets = refl
 router-ip-shown Ipv6 octets = refl

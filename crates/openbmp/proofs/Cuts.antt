@@ -11,7 +11,8 @@ use Rattle.wire.specs.Number as Number
 use Rattle.wire.specs.Bytes.{pick, numberAt}
 use Rattle.wire.specs.Refusal.{refusal}
 use Rattle.wire.proofs.Bytes.{number-none}
-use Rattle.layout.specs.Layout.{total, cutIn}
+use Rattle.wire.specs.Lacking.{total}
+use Rattle.layout.specs.Layout.{cutIn}
 use Rattle.peer_type.specs.Peer.{flag}
 use Rattle.openbmp.specs.Grammar.{widths}
 use Rattle.openbmp.specs.Shown.{shown, refused}

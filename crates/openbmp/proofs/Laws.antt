@@ -14,7 +14,7 @@ use Rattle.wire.proofs.Bytes.{value-be, num-lt, num-back, part-back, bytes-take
 use Rattle.wire.proofs.Views.{octets-part, viewed-inside}
 use Rattle.models.specs.declared.Afi.{Afi}
 use Rattle.models.specs.declared.Afi.the-variants.{Ipv4, Ipv6}
-use Rattle.openbmp.specs.Grammar.{RouterIp, ipv4, ipv6, Reading, flagsOf, routerIpBytes, joinRest, join, RouterIpFits, bitOf, Good}
+use Rattle.openbmp.specs.Grammar.{RouterIp, ipv4, ipv6, Reading, flagsOf, routerIpBytes, joinFromAdmin, join, RouterIpFits, bitOf, Good}
 use Rattle.openbmp.specs.Read.{routerIpOf, familyOf, partsOf}
 use Rattle.wire.specs.View.{view, viewed}
 
@@ -23,7 +23,7 @@ bit-small : (ip : RouterIp) → bitOf ip ≤ 1
 bit-small (ipv4 address skipped) = omega arith
 bit-small (ipv6 address) = omega arith
 
-length-ip : (ip : RouterIp) → RouterIpFits ip → length (routerIpBytes ip) ≡ 16
+pub length-ip : (ip : RouterIp) → RouterIpFits ip → length (routerIpBytes ip) ≡ 16
 length-ip (ipv4 address skipped) fits = length-append address skipped ∙ omega (arith, fits .0 .many, fits .1 .many)
 length-ip (ipv6 address) fits = fits .many
 
@@ -66,7 +66,7 @@ module _ (r : Reading) (g : Good r) where
       let ip = routerIpBytes (r .routerIp) in
       let b3 = ip ++ behind-ip in
       let b2 = r .routerHash ++ b3 in
-      let n1 = length-append (r .collectorHash) (joinRest r) in
+      let n1 = length-append (r .collectorHash) (joinFromAdmin r) in
       let n2 = length-append (r .admin) b2 in
       let n3 = length-append (r .routerHash) b3 in
       let n4 = length-append ip behind-ip in
@@ -74,13 +74,13 @@ module _ (r : Reading) (g : Good r) where
       let n6 = length-ip (r .routerIp) (g .router-ip-fits) in
       omega (arith, g .collector-hash-fits .many, g .admin-fits .many, g .router-hash-fits .many, g .group-fits .many)
 
-  at38 : drop 38 (join r) ≡ joinRest r
+  at38 : drop 38 (join r) ≡ joinFromAdmin r
   unfolding be
-  at38 = drop-at (r .collectorHash) (joinRest r) 16 (g .collector-hash-fits .many)
+  at38 = drop-at (r .collectorHash) (joinFromAdmin r) 16 (g .collector-hash-fits .many)
 
   at40 : drop 40 (join r) ≡ r .admin ++ (r .routerHash ++ (routerIpBytes (r .routerIp) ++ behind-ip))
   unfolding be behind-ip
-  at40 = drop-on (join r) (joinRest r) 38 2 40 at38 refl
+  at40 = drop-on (join r) (joinFromAdmin r) 38 2 40 at38 refl
 
   after-admin : drop (40 + r .adminLength) (join r) ≡ r .routerHash ++ (routerIpBytes (r .routerIp) ++ behind-ip)
   after-admin =
@@ -138,7 +138,7 @@ module _ (r : Reading) (g : Good r) where
       let ip = routerIpBytes (r .routerIp) in
       let octets = ap (take 16) after-hash ∙ take-at ip behind-ip 16 (length-ip (r .routerIp) (g .router-ip-fits)) in
       let router-ip = ap (routerIpOf (familyOf (numAt 1 s 12))) octets ∙ ip-back (numAt 1 s 12) (r .routerIp) (g .router-ip-fits) (ipv6-bit ∙ g .ipv6-bit-is) in
-      let collector-hash = take-at (r .collectorHash) (joinRest r) 16 (g .collector-hash-fits .many) in
+      let collector-hash = take-at (r .collectorHash) (joinFromAdmin r) 16 (g .collector-hash-fits .many) in
       let admin = ap (take a) at40 ∙ take-at (r .admin) (r .routerHash ++ (ip ++ behind-ip)) a (g .admin-fits .many) in
       let router-hash = ap (take 16) after-admin ∙ take-at (r .routerHash) (ip ++ behind-ip) 16 (g .router-hash-fits .many) in
       let group = ap (take (r .groupLength)) before-group ∙ take-at (r .group) (be 4 (r .rowCount) ++ r .tail) (r .groupLength) (g .group-fits .many) in

@@ -24,17 +24,13 @@
 --       74 + a + g    4    Row Count                1
 --       78 + a + g         tail                     what follows the header
 --
--- The judgments, in byte order, are two: BadOpenBmp (8) where magic number, versions or row count are other than these, and Unsupported (9)
--- where flag 0x80 is clear or the object type is another. Below, `be w n` are the w bytes of the number n, the most significant first, and
--- skipped bits and bytes may be anything.
+-- Below, `be w n` are the w bytes of the number n, the most significant first, and skipped bits and bytes may be anything.
 use Prim.Native.Nat.{ℕ, _+_, _*_, _^_, _<_}
 use mathlib.Core.Path.{_≡_}
 use mathlib.Core.List.{List, [], _∷_, _++_}
 use Rattle.wire.specs.Bytes.{be, Bytes, Octets}
-
--- the fields' widths in order, by the two lengths that are read: a magic number is one field, and so is an address
-abbrev pub widths : ℕ → ℕ → List ℕ
-widths a g = 4 ∷ 1 ∷ 1 ∷ 2 ∷ 4 ∷ 1 ∷ 1 ∷ 4 ∷ 4 ∷ 16 ∷ 2 ∷ a ∷ 16 ∷ 16 ∷ 2 ∷ g ∷ 4 ∷ []
+use Rattle.wire.specs.Parts.{joinAll}
+use Rattle.wire.specs.Exactly.{Grammar, noTable}
 
 pub data RouterIp : Type 0 where
   ipv4 : (address skipped : List ℕ) → RouterIp
@@ -72,17 +68,45 @@ abbrev pub routerIpBytes : RouterIp → List ℕ
 routerIpBytes (ipv4 address skipped) = address ++ skipped
 routerIpBytes (ipv6 address) = address
 
--- from the admin's length on
-abbrev pub joinRest : Reading → List ℕ
-joinRest r =
-    be 2 (r .adminLength) ++ (r .admin ++ (r .routerHash ++ (routerIpBytes (r .routerIp) ++
-    (be 2 (r .groupLength) ++ (r .group ++ (be 4 (r .rowCount) ++ r .tail))))))
+-- the parts in order, how many bytes each has by the two lengths, and all of them joined: an address is one part
+abbrev pub partsFromAdmin : Reading → List (List ℕ)
+partsFromAdmin r =
+    be 2 (r .adminLength) ∷ r .admin ∷ r .routerHash ∷ routerIpBytes (r .routerIp) ∷ be 2 (r .groupLength) ∷ r .group ∷ be 4 (r .rowCount) ∷ []
+
+abbrev pub parts : Reading → List (List ℕ)
+parts r =
+    be 4 (r .magic) ∷ be 1 (r .major) ∷ be 1 (r .minor) ∷ be 2 (r .headerLength) ∷ be 4 (r .messageLength)
+    ∷ be 1 (flagsOf (r .routerBit) (r .ipv6Bit) (r .lowerBits)) ∷ be 1 (r .objectType) ∷ be 4 (r .seconds) ∷ be 4 (r .microseconds)
+    ∷ r .collectorHash ∷ partsFromAdmin r
+
+abbrev pub widths : ℕ → ℕ → List ℕ
+widths a g = 4 ∷ 1 ∷ 1 ∷ 2 ∷ 4 ∷ 1 ∷ 1 ∷ 4 ∷ 4 ∷ 16 ∷ 2 ∷ a ∷ 16 ∷ 16 ∷ 2 ∷ g ∷ 4 ∷ []
+
+abbrev pub joinFromAdmin : Reading → List ℕ
+joinFromAdmin r = joinAll _++_ (partsFromAdmin r) (r .tail)
 
 abbrev pub join : Reading → List ℕ
-join r =
-    be 4 (r .magic) ++ (be 1 (r .major) ++ (be 1 (r .minor) ++ (be 2 (r .headerLength) ++ (be 4 (r .messageLength) ++
-    (be 1 (flagsOf (r .routerBit) (r .ipv6Bit) (r .lowerBits)) ++ (be 1 (r .objectType) ++
-    (be 4 (r .seconds) ++ (be 4 (r .microseconds) ++ (r .collectorHash ++ joinRest r)))))))))
+join r = joinAll _++_ (parts r) (r .tail)
+
+-- ---- what is skipped: bits of the flags, the two hashes, and what stands behind an IPv4 address
+abbrev pub routerIpSkipped : RouterIp → List ℕ
+routerIpSkipped (ipv4 address skipped) = skipped
+routerIpSkipped (ipv6 address) = []
+
+pub record Skipped : Type 0 where
+  pub lowerBits : ℕ
+  pub collectorHash : List ℕ
+  pub routerHash : List ℕ
+  pub routerIp : List ℕ
+
+abbrev pub skipped : Reading → Skipped
+skipped r =
+    record {
+      lowerBits = r .lowerBits;
+      collectorHash = r .collectorHash;
+      routerHash = r .routerHash;
+      routerIp = routerIpSkipped (r .routerIp);
+    }
 
 -- ---- what makes a reading good: the fixed parts have their one value, the others fit their fields, and the lengths are those of what they count
 abbrev pub RouterIpFits : RouterIp → Type 0
@@ -115,3 +139,16 @@ pub record Good (r : Reading) : Type 0 where
   pub group-fits : Octets (r .groupLength) (r .group)
   pub row-count-is : r .rowCount ≡ 1
   pub tail-bytes : Bytes (r .tail)
+
+-- the grammar; there is no table
+abbrev pub grammar : Grammar
+grammar =
+    record {
+      Reading = Reading;
+      join = join;
+      Good = Good;
+      Fits = noTable;
+      Skipped = Skipped;
+      skipped = skipped;
+      tail = λ r. r .tail;
+    }

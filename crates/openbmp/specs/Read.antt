@@ -1,8 +1,9 @@
 -- What the reader answers, for every input: stages in byte order, each with one judgment on what was read and one test of the length for what
--- is read next. `numberAt` is the number there, since its bytes were asked for before.
+-- is read next. BadOpenBmp (8) is for a magic number, versions or a row count that are other than the grammar's, Unsupported (9) for a flag 0x80
+-- that is clear or another object type. `numberAt` is the number there, since its bytes were asked for before.
 use Prim.Native.Nat.{ℕ, _+_, _/_, _%_}
 use mathlib.Core.Bool.{_&&_}
-use mathlib.Core.List.{List}
+use mathlib.Core.List.{List, [], _∷_}
 use lib.Dec.{ltb, eqb}
 use lib.ListN.{length, take, drop}
 use Rattle.wire.specs.Number as Number
@@ -13,8 +14,9 @@ use Rattle.layout.specs.Layout.{cutIn}
 use Rattle.models.specs.declared.Afi.{Afi}
 use Rattle.models.specs.declared.Afi.the-variants.{Ipv4, Ipv6}
 use Rattle.peer_type.specs.Peer.{flag}
-use Rattle.openbmp.specs.Grammar.{widths, RouterIp, ipv4, ipv6, Reading}
-use Rattle.openbmp.specs.Shown.{shown, refused, grammar}
+use Rattle.openbmp.specs.Grammar.{widths, RouterIp, ipv4, ipv6, Reading, grammar}
+use Rattle.openbmp.specs.Told as Told
+use Rattle.openbmp.specs.Shown.{shown, refused}
 use Rattle.openbmp.specs.declared.OpenBmpAnswer.{OpenBmpAnswer}
 
 -- the sixteen bytes of an address taken apart by its family, and the family by the flags
@@ -94,6 +96,21 @@ readOpenBmpHeader s =
     pick (ltb Number.limit (length s)) (refused (refusal Number.TooLong 0))
     (pick (ltb (length s) 4) (cut (length s) 0 0) (afterMagic s (numberAt 4 s 0)))
 
+-- the numbers that it refuses with
+abbrev pub numbers : List ℕ
+numbers = Number.TooLong ∷ Number.Cut ∷ Number.BadOpenBmp ∷ Number.Unsupported ∷ []
+
 -- the reader, and the grammar that it is held against
 abbrev pub reader : Reader
-reader = record { grammar = grammar; Answer = OpenBmpAnswer; read = readOpenBmpHeader; numberOf = λ a. a .refusal .number; shown = shown }
+reader =
+    record {
+      grammar = grammar;
+      Answer = OpenBmpAnswer;
+      read = readOpenBmpHeader;
+      shown = shown;
+      tailAt = λ a. a .stop;
+      told = Told.told;
+      refused = refused;
+      refusalOf = λ a. a .refusal;
+      numbers = numbers;
+    }

@@ -6,19 +6,18 @@ use lib.Ieee.{binary64, ofBits}
 use Rattle.wire.specs.Refusal.{noRefusal}
 use Rattle.wire.specs.View.{view}
 use Rattle.wire.specs.declared.Refusal.{Refusal}
-use Rattle.wire.specs.Exactly.{Grammar, noTable}
 use Rattle.models.specs.Address.{unspecified}
 use Rattle.times.specs.Time.{timeOf}
 use Rattle.models.specs.declared.Afi.the-variants.{Ipv4, Ipv6}
 use Rattle.models.specs.declared.IpAddr.{IpAddr}
-use Rattle.openbmp.specs.Grammar.{RouterIp, ipv4, ipv6, Reading, join, Good}
+use Rattle.openbmp.specs.Grammar.{RouterIp, ipv4, ipv6, Reading}
 use Rattle.openbmp.specs.declared.OpenBmpHeader.{OpenBmpHeader}
 use Rattle.openbmp.specs.declared.OpenBmpAnswer.{OpenBmpAnswer}
 
 -- an IPv4 address with zeros behind its four octets
-abbrev pub shownIp : RouterIp → IpAddr
-shownIp (ipv4 address skipped) = record { octets = address ++ replicate 12 0; afi = Ipv4 }
-shownIp (ipv6 address) = record { octets = address; afi = Ipv6 }
+abbrev pub shownRouterIp : RouterIp → IpAddr
+shownRouterIp (ipv4 address skipped) = record { octets = address ++ replicate 12 0; afi = Ipv4 }
+shownRouterIp (ipv6 address) = record { octets = address; afi = Ipv6 }
 
 abbrev pub shownHeader : Reading → OpenBmpHeader
 shownHeader r =
@@ -32,7 +31,7 @@ shownHeader r =
       seconds = r .seconds;
       microseconds = r .microseconds;
       «admin_id» = view 40 (r .adminLength);
-      «router_ip» = shownIp (r .routerIp);
+      «router_ip» = shownRouterIp (r .routerIp);
       «router_group» = view (74 + r .adminLength) (r .groupLength);
     }
 
@@ -59,7 +58,3 @@ zeroHeader =
 
 abbrev pub refused : Refusal → OpenBmpAnswer
 refused r = record { refusal = r; stop = 0; header = zeroHeader }
-
--- the grammar; there is no table
-abbrev pub grammar : Grammar
-grammar = record { Reading = Reading; join = join; Good = Good; Fits = noTable }

@@ -17,7 +17,7 @@ use Rattle.models.specs.declared.Afi.the-variants.{Ipv4, Ipv6}
 use Rattle.models.specs.declared.IpAddr.{IpAddr}
 use Rattle.times.proofs.Promises.{is-timestamp-is-equality}
 use Rattle.openbmp.specs.Grammar.{RouterIp, ipv4, ipv6, Reading, flagsOf, routerIpBytes, join, RouterIpFits, bitOf, Good}
-use Rattle.openbmp.specs.Shown.{shownIp, shownHeader}
+use Rattle.openbmp.specs.Shown.{shownRouterIp, shownHeader}
 use Rattle.openbmp.specs.Read.{routerIpOf}
 use Rattle.openbmp_writer.specs.Write.{familyBit, ipOf, blankIp, readingOf, bytesOf, writable, Typed, Same}
 use Rattle.openbmp.specs.declared.OpenBmpHeader.{OpenBmpHeader}
@@ -29,7 +29,7 @@ blank-fits : (ip : RouterIp) → RouterIpFits ip → RouterIpFits (blankIp ip)
 blank-fits (ipv4 address skipped) fits = (fits .0, octets-zeros 12)
 blank-fits (ipv6 address) fits = fits
 
-blank-shown : (ip : RouterIp) → shownIp (blankIp ip) ≡ shownIp ip
+blank-shown : (ip : RouterIp) → shownRouterIp (blankIp ip) ≡ shownRouterIp ip
 blank-shown (ipv4 address skipped) = refl
 blank-shown (ipv6 address) = refl
 
@@ -42,7 +42,7 @@ bytes-ip (ipv4 address skipped) fits = bytes-append (fits .0 .are-bytes) (fits .
 bytes-ip (ipv6 address) fits = fits .are-bytes
 
 -- what is shown of an address fits its family
-shown-fits : (ip : RouterIp) → RouterIpFits ip → shownIp (ipOf (shownIp ip)) ≡ shownIp ip
+shown-fits : (ip : RouterIp) → RouterIpFits ip → shownRouterIp (ipOf (shownRouterIp ip)) ≡ shownRouterIp ip
 shown-fits (ipv4 address skipped) fits = rw (take-at address (replicate 12 0) 4 (fits .0 .many))
 shown-fits (ipv6 address) fits = refl
 
@@ -138,7 +138,7 @@ module _ (h : OpenBmpHeader) (b : List ℕ) (t : Typed h) (p : Bytes b) where
           minor-is = same .minor-same ∙ g .minor-is;
           object-type-is = same .object-type-same ∙ g .object-type-is;
           time-is = is-timestamp-is-equality (h .timestamp) (h .seconds) (h .microseconds) (t .time-fits) .1 time;
-          ip-is = subst (λ (a : IpAddr). shownIp (ipOf a) ≡ a) (sym (same .router-ip-same)) (shown-fits (q .routerIp) (g .router-ip-fits));
+          ip-is = subst (λ (a : IpAddr). shownRouterIp (ipOf a) ≡ a) (sym (same .router-ip-same)) (shown-fits (q .routerIp) (g .router-ip-fits));
           admin-short = omega (arith, admin, g .admin-length-fits);
           admin-inside = admin-inside;
           group-short = omega (arith, group, g .group-length-fits);

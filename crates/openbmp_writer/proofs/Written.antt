@@ -18,7 +18,7 @@ use Rattle.writing.proofs.Sets.{put-then, put-fits, length-put}
 use Rattle.models.specs.declared.IpAddr.{IpAddr}
 use Rattle.models.proofs.Promises.{equals-is-equality}
 use Rattle.openbmp.specs.Grammar.{RouterIp, ipv4, ipv6, routerIpBytes, flagsOf}
-use Rattle.openbmp.specs.Shown.{shownIp}
+use Rattle.openbmp.specs.Shown.{shownRouterIp}
 use Rattle.openbmp_writer.specs.Write.{familyBit, ipOf, blankIp, bytesOf, fixedFits, timeFits, ipFits, viewFits, writable, frontBytes, timeBytes, counted, restBytes}
 use Rattle.openbmp.specs.declared.OpenBmpHeader.{OpenBmpHeader}
 
@@ -132,7 +132,7 @@ pub record Writable (h : OpenBmpHeader) (room : ℕ) : Type 0 where
   pub minor-is : h .«minor_version» ≡ 7
   pub object-type-is : h .«object_type» ≡ 12
   pub time-is : timeFits h ≡ true
-  pub ip-is : shownIp (ipOf (h .«router_ip»)) ≡ h .«router_ip»
+  pub ip-is : shownRouterIp (ipOf (h .«router_ip»)) ≡ h .«router_ip»
   pub admin-short : h .«admin_id» .length < 256 ^ 2
   pub admin-inside : h .«admin_id» .place + h .«admin_id» .length ≤ room
   pub group-short : h .«router_group» .length < 256 ^ 2
@@ -162,7 +162,7 @@ module _ (h : OpenBmpHeader) (room : ℕ) where
         minor-is = eqb-true (h .«minor_version») 7 (two .0);
         object-type-is = eqb-true (h .«object_type») 12 (two .1);
         time-is = time .0;
-        ip-is = equals-is-equality (shownIp (ipOf (h .«router_ip»))) (h .«router_ip») .0 (ip .0);
+        ip-is = equals-is-equality (shownRouterIp (ipOf (h .«router_ip»))) (h .«router_ip») .0 (ip .0);
         admin-short = admin .0;
         admin-inside = admin .1;
         group-short = group .0;
@@ -176,13 +176,13 @@ module _ (h : OpenBmpHeader) (room : ℕ) where
         eq-eqb (h .«minor_version») 7 (w .minor-is),
         eq-eqb (h .«object_type») 12 (w .object-type-is),
         w .time-is,
-        equals-is-equality (shownIp (ipOf (h .«router_ip»))) (h .«router_ip») .1 (w .ip-is),
+        equals-is-equality (shownRouterIp (ipOf (h .«router_ip»))) (h .«router_ip») .1 (w .ip-is),
         view-from (h .«admin_id») room (w .admin-short) (w .admin-inside),
       )
       (view-from (h .«router_group») room (w .group-short) (w .group-inside))
 
 -- ---- the bytes that are written are those that are shown
-written-ip : (ip : RouterIp) → routerIpBytes (blankIp ip) ≡ shownIp ip .octets
+written-ip : (ip : RouterIp) → routerIpBytes (blankIp ip) ≡ shownRouterIp ip .octets
 written-ip (ipv4 address skipped) = refl
 written-ip (ipv6 address) = refl
 

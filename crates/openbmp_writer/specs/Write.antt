@@ -15,7 +15,7 @@ use Rattle.models.specs.declared.Afi.{Afi}
 use Rattle.models.specs.declared.Afi.the-variants.{Ipv4, Ipv6}
 use Rattle.models.specs.declared.IpAddr.{IpAddr}
 use Rattle.openbmp.specs.Grammar.{RouterIp, ipv4, ipv6, Reading, join}
-use Rattle.openbmp.specs.Shown.{shownIp}
+use Rattle.openbmp.specs.Shown.{shownRouterIp}
 use Rattle.openbmp.specs.Read.{routerIpOf}
 use Rattle.openbmp.specs.declared.OpenBmpHeader.{OpenBmpHeader}
 
@@ -71,7 +71,7 @@ timeFits h = isTimestamp (h .timestamp) (h .seconds) (h .microseconds)
 
 -- The address is the one that its octets show: IPv6, or IPv4 with zeros behind its four octets.
 abbrev pub ipFits : IpAddr → Bool
-ipFits address = sameAddress (shownIp (ipOf address)) address
+ipFits address = sameAddress (shownRouterIp (ipOf address)) address
 
 -- A view lies inside a buffer of this length, and its length has room in its field.
 abbrev pub viewFits : View → ℕ → Bool

@@ -6,12 +6,15 @@ use Prim.Native.Nat.{ℕ}
 use native.Mathlib.Omega.{arith}
 use Rattle.wire.specs.Bytes.{be}
 use Rattle.wire.proofs.Determined.{determined}
-use Rattle.wire.specs.Exactly.{Sound, Complete, Unique}
-use Rattle.peer_down_notification.specs.Grammar.{Reading, join}
-use Rattle.peer_down_notification.specs.Shown.{shownData, shown, grammar, dataOf}
+use Rattle.wire.specs.Refuses.{Refuses}
+use Rattle.wire.specs.Exactly.{Sound, Complete, Told, Unique}
+use Rattle.peer_down_notification.specs.Grammar.{Reading, join, grammar}
+use Rattle.peer_down_notification.specs.Shown.{shownData, shown, dataOf}
 use Rattle.peer_down_notification.specs.Read.{hasData, partsOf, readPeerDown, reader}
 use Rattle.peer_down_notification.specs.declared.PeerDownAnswer.{PeerDownAnswer}
 use Rattle.peer_down_notification.proofs.Laws.{known-of, reason-there, parts-join, Accepted, parts-good, accepted, shows-parts, data-shown}
+use Rattle.peer_down_notification.proofs.Told as ToldProofs
+use Rattle.peer_down_notification.proofs.Refusals as Refusals
 
 -- What the reader accepts has a good reading, which it shows.
 pub sound : Sound reader
@@ -31,6 +34,14 @@ complete r g f short =
       known = rw (reason-there r g) (known-of (r .reason) (r .data-part) (r .tail) (g .follows));
     } in
     shows-parts (join r) a ∙ ap shown (parts-join r g)
+
+-- Every good reading is told by the answer that shows it.
+pub told-back : Told reader
+told-back = ToldProofs.told-back
+
+-- A refusal shows nothing but itself, and has one of the reader's numbers; each of these is given for some input.
+pub refuses : Refuses reader
+refuses = Refusals.refuses
 
 -- No input has two readings.
 pub unique : Unique grammar

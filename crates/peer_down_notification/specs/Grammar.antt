@@ -15,6 +15,7 @@ use mathlib.Core.List.{List, [], _++_}
 use mathlib.Core.Logic.{_⊎_}
 use lib.ListN.{length}
 use Rattle.wire.specs.Bytes.{be, Bytes}
+use Rattle.wire.specs.Exactly.{Grammar, noTable, Nothing, skipsNothing}
 
 pub data Data : Type 0 where
   absent : Data
@@ -50,3 +51,16 @@ pub record Good (r : Reading) : Type 0 where
   pub follows : Follows (r .reason) (r .data-part) (r .tail)
   pub data-bytes : Bytes (dataBytes (r .data-part))
   pub tail-bytes : Bytes (r .tail)
+
+-- the grammar; there is no table
+abbrev pub grammar : Grammar
+grammar =
+    record {
+      Reading = Reading;
+      join = join;
+      Good = Good;
+      Fits = noTable;
+      Skipped = Nothing;
+      skipped = skipsNothing;
+      tail = λ r. r .tail;
+    }

@@ -1,7 +1,7 @@
 -- What the reader answers, for every input.
 use Prim.Native.Nat.{ℕ, _+_, _-_}
 use mathlib.Core.Bool.{Bool, true, false}
-use mathlib.Core.List.{List, []}
+use mathlib.Core.List.{List, [], _∷_}
 use lib.ListN.{length, drop}
 use lib.Dec.{ltb, eqb}
 use Rattle.wire.specs.Number as Number
@@ -9,8 +9,9 @@ use Rattle.wire.specs.Bytes.{pick, has, numAt}
 use Rattle.wire.specs.Refusal.{refusal, cutAt}
 use Rattle.wire.specs.View.{view}
 use Rattle.wire.specs.Exactly.{Reader}
-use Rattle.peer_down_notification.specs.Grammar.{absent, present, Reading}
-use Rattle.peer_down_notification.specs.Shown.{reasonOf, grammar, shown, refusalOf}
+use Rattle.peer_down_notification.specs.Grammar.{absent, present, Reading, grammar}
+use Rattle.peer_down_notification.specs.Told as Told
+use Rattle.peer_down_notification.specs.Shown.{reasonOf, shown, refusalOf, stopOf}
 use Rattle.peer_down_notification.specs.declared.PeerDownData.the-variants.{Absent, Present}
 use Rattle.peer_down_notification.specs.declared.PeerDownAnswer.{PeerDownAnswer}
 
@@ -39,6 +40,21 @@ readPeerDown s =
     (pick (ltb 6 (numAt 1 s 0)) (PeerDownAnswer.Refused (refusal Number.UnknownKind 0)) (goodOf (numAt 1 s 0) (length s - 1)))
     (PeerDownAnswer.Refused (cutAt 0)))
 
+-- the numbers that it refuses with
+abbrev pub numbers : List ℕ
+numbers = Number.TooLong ∷ Number.Cut ∷ Number.UnknownKind ∷ []
+
 -- the reader, and the grammar that it is held against
 abbrev pub reader : Reader
-reader = record { grammar = grammar; Answer = PeerDownAnswer; read = readPeerDown; numberOf = λ a. refusalOf a .number; shown = shown }
+reader =
+    record {
+      grammar = grammar;
+      Answer = PeerDownAnswer;
+      read = readPeerDown;
+      shown = shown;
+      tailAt = stopOf;
+      told = Told.told;
+      refused = PeerDownAnswer.Refused;
+      refusalOf = refusalOf;
+      numbers = numbers;
+    }

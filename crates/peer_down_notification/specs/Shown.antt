@@ -7,8 +7,7 @@ use Rattle.wire.specs.Refusal.{noRefusal}
 use Rattle.wire.specs.View.{view, viewed}
 use Rattle.wire.specs.declared.Refusal.{Refusal}
 use Rattle.wire.specs.declared.View.{View}
-use Rattle.wire.specs.Exactly.{Grammar, noTable}
-use Rattle.peer_down_notification.specs.Grammar.{Data, absent, present, Reading, join, Good}
+use Rattle.peer_down_notification.specs.Grammar.{Data, absent, present, Reading}
 use Rattle.peer_down_notification.specs.declared.PeerDownReason.{PeerDownReason}
 use Rattle.peer_down_notification.specs.declared.PeerDownReason.the-variants.{Reserved, LocalSystemClosedNotificationPduFollows, LocalSystemClosedFsmEvenFollows, RemoteSystemClosedNotificationPduFollows, RemoteSystemsClosedNoData, PeerDeConfigured, LocalSystemClosedTlvDataFollows}
 use Rattle.peer_down_notification.specs.declared.PeerDownData.{PeerDownData}
@@ -72,11 +71,11 @@ abbrev pub viewOf : PeerDownData → View
 viewOf Absent = view 0 0
 viewOf (Present v) = v
 
+-- the data that is told, by the bytes that its view shows
+abbrev pub toldData : (View → List ℕ) → PeerDownData → Data
+toldData look Absent = absent
+toldData look (Present v) = present (look v)
+
 -- the data that a view shows of a buffer
 abbrev pub dataOf : List ℕ → PeerDownData → Data
-dataOf b Absent = absent
-dataOf b (Present v) = present (viewed b v)
-
--- the grammar; there is no table
-abbrev pub grammar : Grammar
-grammar = record { Reading = Reading; join = join; Good = Good; Fits = noTable }
+dataOf b d = toldData (viewed b) d

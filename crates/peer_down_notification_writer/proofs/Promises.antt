@@ -17,7 +17,8 @@ use Rattle.peer_down_notification_writer.specs.Write.{readingOf, bytesOf
 use Rattle.peer_down_notification.specs.declared.PeerDownNotification.{PeerDownNotification}
 use Rattle.peer_down_notification.specs.declared.PeerDownAnswer.{PeerDownAnswer}
 use Rattle.peer_down_notification.proofs.Laws.{known-of}
-use Rattle.peer_down_notification_writer.proofs.Trip.{reason-back, kind-back, fine-from, good-of, bytes-data, fine-back, ReadsBack, stop-whole, no-more}
+use Rattle.peer_down_notification.proofs.Told.{reason-told}
+use Rattle.peer_down_notification_writer.proofs.Trip.{reason-back, fine-from, good-of, bytes-data, fine-back, ReadsBack, stop-whole, no-more}
 use Rattle.peer_down_notification.proofs.Promises.{sound, complete, views}
 
 reads-back : (m : PeerDownNotification) (b : List ℕ) → Bytes b → writable m (length b) ≡ true → length (bytesOf m b) ≤ Number.limit → ReadsBack m b (bytesOf m b)
@@ -50,7 +51,7 @@ only-writable m b p inside r =
     let g = x .1 .reading .is-good in
     let same = subst (λ (a : PeerDownAnswer). Same m b (notificationOf a) s) (x .1 .shown-so) (r .same) in
     let reason-is : q .reason ≡ kindOf (m .reason) =
-    sym (ap kindOf (same .reason-same) ∙ kind-back (q .reason) (known-of (q .reason) (q .data-part) (q .tail) (g .follows))) in
+    sym (ap kindOf (same .reason-same) ∙ reason-told (q .reason) (known-of (q .reason) (q .data-part) (q .tail) (g .follows))) in
     let data-is : q .data-part ≡ dataOf b (m .«data») =
     sym (same .data-same ∙ subst (λ (l : List ℕ). dataOf l (shownData (q .data-part)) ≡ q .data-part) (x .1 .reading .joined) (views q)) in
     let tail-is : q .tail ≡ [] = no-more (kindOf (m .reason)) (q .reason) (dataOf b (m .«data»)) (q .data-part) (q .tail) data-is (x .1 .reading .joined) in

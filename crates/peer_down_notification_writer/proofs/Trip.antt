@@ -2,7 +2,7 @@
 use mathlib.Core.Path.{_≡_, refl, sym, ap, _∙_}
 use mathlib.Core.Bool.{Bool, true, false}
 use mathlib.Core.List.{List, [], _∷_, _++_, append-nil}
-use Prim.Native.Nat.{ℕ, zero, suc, _+_, _≤_}
+use Prim.Native.Nat.{ℕ, _+_, _≤_}
 use native.Mathlib.Omega.{arith}
 use borrow.Author.Tests.{leb-true}
 use lib.ListN.{length, length-append}
@@ -32,17 +32,6 @@ reason-back RemoteSystemClosedNotificationPduFollows = (refl, omega arith)
 reason-back RemoteSystemsClosedNoData = (refl, omega arith)
 reason-back PeerDeConfigured = (refl, omega arith)
 reason-back LocalSystemClosedTlvDataFollows = (refl, omega arith)
-
-pub kind-back : (n : ℕ) → n ≤ 6 → kindOf (reasonOf n) ≡ n
-unfolding reasonOf kindOf
-kind-back zero h = refl
-kind-back (suc zero) h = refl
-kind-back (suc (suc zero)) h = refl
-kind-back (suc (suc (suc zero))) h = refl
-kind-back (suc (suc (suc (suc zero)))) h = refl
-kind-back (suc (suc (suc (suc (suc zero))))) h = refl
-kind-back (suc (suc (suc (suc (suc (suc zero)))))) h = refl
-kind-back (suc (suc (suc (suc (suc (suc (suc n))))))) h = absurd (omega arith)
 
 -- ---- what `partsWritable` asks
 pub record Fine (k : ℕ) (d : PeerDownData) (room : ℕ) : Type 0 where

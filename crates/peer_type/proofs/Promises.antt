@@ -1,18 +1,26 @@
 -- What a user of the crate relies on. Assumes nothing.
 use mathlib.Core.Bool.{Bool}
-use mathlib.Core.Path.{_≡_, sym, ap, _∙_}
-use Prim.Native.Nat.{ℕ}
+use mathlib.Core.Path.{_≡_, refl, sym, ap, _∙_}
+use Prim.Native.Nat.{ℕ, _≤_}
+use native.Mathlib.Omega.{arith}
+use Rattle.wire.proofs.Arms.{number-of-name}
 use Rattle.wire.proofs.Determined.{determined}
 use Rattle.models.specs.declared.Afi.{Afi}
 use Rattle.models.specs.declared.AsnLength.{AsnLength}
-use Rattle.peer_type.specs.Peer.{kindOf, typeOf, flagL, flagO, flagF, addressFamily, asnLength}
+use Rattle.peer_type.specs.Peer.{kindOf, names, typeOf, flagL, flagO, flagF, addressFamily, asnLength}
 use Rattle.peer_type.specs.declared.BmpPeerType.{BmpPeerType}
+use Rattle.peer_type.specs.declared.BmpPeerType.the-variants.{LocalRib}
 use Rattle.peer_type.specs.declared.PerPeerFlags.{PerPeerFlags}
-use Rattle.peer_type.proofs.Told.{named}
+use Rattle.peer_type.proofs.Flags.{named}
 
 -- Different types have different numbers.
 pub number-tells : (s t : BmpPeerType) → kindOf s ≡ kindOf t → s ≡ t
 number-tells s t e = sym (named s .0) ∙ ap typeOf e ∙ named t .0
+
+-- A number that is known is told by its type.
+pub kind-told : (n : ℕ) → n ≤ 3 → kindOf (typeOf n) ≡ n
+unfolding typeOf kindOf
+kind-told n h = number-of-name kindOf n LocalRib names refl (λ k. omega arith)
 
 -- ---- any two answers that the contracts allow are equal
 pub number-determined : (t : BmpPeerType) (r q : ℕ) → r ≡ kindOf t → q ≡ kindOf t → r ≡ q

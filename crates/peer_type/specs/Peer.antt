@@ -41,7 +41,7 @@ flagV byte = flag 0x80 byte
 abbrev pub flagL : ℕ → Bool
 flagL byte = flag 0x40 byte
 
--- types 0 to 2: AS numbers of 2 bytes (RFC 7854, section 4.2)
+-- types 0 to 2: the messages inside have 2-byte AS_PATHs (RFC 7854, section 4.2); the Rust takes it for a header's AS of 2 bytes too
 abbrev pub flagA : ℕ → Bool
 flagA byte = flag 0x20 byte
 

@@ -5,4 +5,8 @@ pub mod Laws
 pub mod Opens
 pub mod Shows
 pub mod Sound
+pub mod Told
+pub mod Refusals
+pub mod Cuts
 pub mod Promises
+pub mod Rfc

@@ -2,17 +2,19 @@
 use mathlib.Core.Path.{_≡_, refl, sym, ap, ap₂, _∙_}
 use mathlib.Core.Bool.{Bool, true, false, _||_, or-false, or-true, or-assoc}
 use mathlib.Core.List.{List, [], _∷_, _++_, map}
-use Prim.Native.Nat.{ℕ, zero, suc, _+_}
+use Prim.Native.Nat.{ℕ, _+_}
 use lib.Dec.{eqb, ltb}
 use lib.ListN.{length, take, drop}
 use Rattle.wire.specs.Parts.{shownFrom}
 use Rattle.wire.specs.Tlv.{Tlv, sizeOf}
+use Rattle.wire.proofs.Arms.{number-of-name}
 use Rattle.writing.proofs.Table.{At}
 use Rattle.peer_up_notification.specs.Warnings.{Head, headOf, some, isTableName, badTableName}
-use Rattle.peer_up_notification.specs.Shown.{typeOf, kindOf, entry}
+use Rattle.peer_up_notification.specs.Shown.{typeOf, kindOf, entry, names}
 use Rattle.peer_up_notification.specs.Read.{headIn, headsIn, heardOf}
 use Rattle.peer_up_notification.specs.declared.PeerUpNotificationTlv.{PeerUpNotificationTlv}
 use Rattle.peer_up_notification.specs.declared.TableNames.{TableNames}
+use Rattle.peer_up_notification.specs.declared.PeerUpTlvType.the-variants.{Unknown}
 
 -- ---- one TLV
 module _ (names : TableNames) (kind size : ℕ) where
@@ -53,17 +55,12 @@ heard-here table n i t a all names next e h =
     ∙ ap (λ (m : TableNames). alsoOf m l) (sym h)
 
 -- ---- the entries that show TLVs say what the TLVs say
-pub kindOf-typeOf : (n : ℕ) → kindOf (typeOf n) ≡ n
+pub kind-told : (n : ℕ) → kindOf (typeOf n) ≡ n
 unfolding typeOf kindOf
-kindOf-typeOf zero = refl
-kindOf-typeOf (suc zero) = refl
-kindOf-typeOf (suc (suc zero)) = refl
-kindOf-typeOf (suc (suc (suc zero))) = refl
-kindOf-typeOf (suc (suc (suc (suc zero)))) = refl
-kindOf-typeOf (suc (suc (suc (suc (suc n))))) = refl
+kind-told n = number-of-name kindOf n (Unknown n) names refl (λ h. refl)
 
 pub heads-shown : (at : ℕ) (l : List Tlv) (r : List PeerUpNotificationTlv)
     → headsIn (take (length l) (shownFrom sizeOf entry at l ++ r)) ≡ map headOf l
 heads-shown at [] r = refl
 heads-shown at (t ∷ l) r =
-    ap₂ (λ (k : ℕ) (m : List Head). (k, t .size) ∷ m) (kindOf-typeOf (t .kind)) (heads-shown (at + sizeOf t) l r)
+    ap₂ (λ (k : ℕ) (m : List Head). (k, t .size) ∷ m) (kind-told (t .kind)) (heads-shown (at + sizeOf t) l r)

@@ -19,7 +19,8 @@ use Rattle.wire.specs.declared.View.{View}
 use Rattle.wire.proofs.Bytes.{bytes-append, bytes-be, bytes-take, bytes-drop, value-be, num-lt, num-back, part-back, num-drop, num-part}
 use Rattle.wire.proofs.Views.{length-part, viewed-part, octets-part}
 use Rattle.peer_up_notification.specs.Grammar.{Message, messageBytes, GoodMessage}
-use Rattle.peer_up_notification.specs.Read.{openAt, openOf}
+use Rattle.peer_up_notification.specs.Told.{openOf}
+use Rattle.peer_up_notification.specs.Read.{openAt}
 use Rattle.peer_up_notification.specs.declared.Open.{Open}
 use Rattle.peer_up_notification.specs.declared.Open.the-variants.{Broken, Found}
 
@@ -111,19 +112,19 @@ pub record WasFound (s : List ℕ) (at : ℕ) (v : View) (c : Cursor) : Type 0 w
   pub place-is : v .place ≡ at
   pub next-is : c .at ≡ at + v .length
 
-abbrev Told : List ℕ → ℕ → Open → Type 0
-Told s at (Broken r) = 0 < r .number
-Told s at (Found v c) = WasFound s at v c
+abbrev Judged : List ℕ → ℕ → Open → Type 0
+Judged s at (Broken r) = 0 < r .number
+Judged s at (Found v c) = WasFound s at v c
 
-told : (s : List ℕ) (at : ℕ) → Told s at (openAt s at)
+judged : (s : List ℕ) (at : ℕ) → Judged s at (openAt s at)
 unfolding openAt
-told s at = go (ltb (length s - at) 19) (ltb size 19) refl (ltb (length s - at) size) refl
+judged s at = go (ltb (length s - at) 19) (ltb size 19) refl (ltb (length s - at) size) refl
   where
     size : ℕ
     size = numAt 2 s (at + 16)
 
     go : (a b : Bool) → ltb size 19 ≡ b → (d : Bool) → ltb (length s - at) size ≡ d
-        → Told s at (pick a (Broken (cutAt at)) (pick b (Broken (refusal Number.BgpLength (at + 16)))
+        → Judged s at (pick a (Broken (cutAt at)) (pick b (Broken (refusal Number.BgpLength (at + 16)))
         (pick d (Broken (cutAt at)) (Found (view at size) (cursor (at + size))))))
     go true b hb d hd = omega arith
     go false true hb d hd = omega arith
@@ -132,10 +133,10 @@ told s at = go (ltb (length s - at) 19) (ltb size 19) refl (ltb (length s - at) 
         record { has-header = ltb-false _ _ hb; there = ltb-false _ _ hd; size-is = refl; place-is = refl; next-is = refl }
 
 pub was-found : (s : List ℕ) (at : ℕ) (v : View) (c : Cursor) → openAt s at ≡ Found v c → WasFound s at v c
-was-found s at v c e = subst (Told s at) e (told s at)
+was-found s at v c e = subst (Judged s at) e (judged s at)
 
 pub broken-number : (s : List ℕ) (at : ℕ) (r : Refusal) → openAt s at ≡ Broken r → 0 < r .number
-broken-number s at r e = subst (Told s at) e (told s at)
+broken-number s at r e = subst (Judged s at) e (judged s at)
 
 -- the bytes of a message that was found
 pub found-one : {s : List ℕ} → Bytes s → (at : ℕ) (v : View) (c : Cursor) → WasFound s at v c → OneMessage (take (v .length) (drop at s))

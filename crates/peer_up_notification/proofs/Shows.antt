@@ -19,9 +19,9 @@ use Rattle.layout.specs.Layout.{sixteenAt}
 use Rattle.models.specs.declared.Afi.{Afi}
 use Rattle.models.specs.declared.Afi.the-variants.{Ipv4, Ipv6}
 use Rattle.peer_type.specs.declared.BmpPeerType.{BmpPeerType}
-use Rattle.peer_up_notification.specs.Grammar.{messageBytes, joinTlvs, join, skippedFor, addressFor, Reading, Good}
+use Rattle.peer_up_notification.specs.Grammar.{messageBytes, joinTlvs, join, skippedFor, addressFor, Reading, Good, Fits}
 use Rattle.peer_up_notification.specs.Warnings.{Head, warningsOf}
-use Rattle.peer_up_notification.specs.Shown.{entry, sentAt, receivedAt, tlvsAt, shownAddress, shownFront, goodAnswer, Fits, shown}
+use Rattle.peer_up_notification.specs.Shown.{entry, sentAt, receivedAt, tlvsAt, shownAddress, shownFront, goodAnswer, shown}
 use Rattle.peer_up_notification.specs.Read.{frontOf, kit, withTlvs, withReceived, withSent, readPeerUp}
 use Rattle.peer_up_notification.specs.declared.PeerUpAnswer.{PeerUpAnswer}
 use Rattle.peer_up_notification.proofs.Address.{address-shown}

@@ -23,9 +23,10 @@ use Rattle.wire.proofs.Walk as Walk
 use Rattle.layout.specs.Layout.{cutIn}
 use Rattle.models.specs.declared.Afi.{Afi}
 use Rattle.peer_type.specs.declared.BmpPeerType.{BmpPeerType}
-use Rattle.peer_up_notification.specs.Grammar.{widths, join, skippedFor, Reading, Good}
-use Rattle.peer_up_notification.specs.Shown.{sentAt, refusedAnswer, Fits}
-use Rattle.peer_up_notification.specs.Read.{openAt, frontOf, kit, withTlvs, withReceived, withSent, readPeerUp, openOf}
+use Rattle.peer_up_notification.specs.Grammar.{widths, join, skippedFor, Reading, Good, Fits}
+use Rattle.peer_up_notification.specs.Shown.{sentAt, refusedAnswer}
+use Rattle.peer_up_notification.specs.Told.{openOf}
+use Rattle.peer_up_notification.specs.Read.{openAt, frontOf, kit, withTlvs, withReceived, withSent, readPeerUp}
 use Rattle.peer_up_notification.specs.declared.PeerUpNotificationTlv.{PeerUpNotificationTlv}
 use Rattle.peer_up_notification.specs.declared.Open.{Open}
 use Rattle.peer_up_notification.specs.declared.Open.the-variants.{Broken, Found}
@@ -99,7 +100,7 @@ module _ (afi : Afi) (s : List ℕ) (p : Bytes s) (a : Accepted s) where
   abbrev receivedBytes : List ℕ
   receivedBytes = take (a .received .length) (drop (a .after-sent .at) s)
 
-  walk-sound : (l : List Tlv) × (z : List ℕ) × Walk.Accepts kit laws tails (a .after-received .at) s l z
+  walk-sound : (l : List Tlv) × (z : List ℕ) × Walk.ShowsItems kit laws tails (a .after-received .at) s l z
   walk-sound = read-sound kit laws tails (a .after-received .at) s p (a .count) (a .end) (a .table) (a .left) (a .walked)
 
   abbrev pub readingAt : List Tlv → List ℕ → Reading
@@ -115,7 +116,7 @@ module _ (afi : Afi) (s : List ℕ) (p : Bytes s) (a : Accepted s) where
         tail = z;
       }
 
-  good-at : (l : List Tlv) (z : List ℕ) → Walk.Accepts kit laws tails (a .after-received .at) s l z → Good afi (readingAt l z)
+  good-at : (l : List Tlv) (z : List ℕ) → Walk.ShowsItems kit laws tails (a .after-received .at) s l z → Good afi (readingAt l z)
   good-at l z w =
       let n : length field ≡ 16 = length-take-le 16 s (omega (arith, a .long)) in
       let k = address-field afi in

@@ -18,7 +18,7 @@ use Rattle.wire.specs.Walk.{stop, bad, item, from}
 use Rattle.wire.specs.declared.Refusal.{Refusal}
 use Rattle.cursor.specs.declared.Cursor.{Cursor}
 use Rattle.peer_up_notification.specs.Shown.{typeOf, entry}
-use Rattle.peer_up_notification.specs.Read.{step, told, stepAt}
+use Rattle.peer_up_notification.specs.Read.{step, asStep, stepAt}
 use Rattle.peer_up_notification.specs.declared.PeerUpNotificationTlv.{PeerUpNotificationTlv}
 use Rattle.peer_up_notification.specs.declared.Step.the-variants.{Stop, Bad, Whole}
 
@@ -74,7 +74,7 @@ numbered s r (whole h k) q = let z : _≡_ {A = ℕ} 0 1 = cc in absurd (omega a
 -- ---- each answer of `step_at`
 module _ (s : List ℕ) (at : ℕ) where
   pub brief-at : length s - at < 4 → stepAt s at ≡ Stop at
-  brief-at h = ap (told at) (none-of (drop at s) (simp length-drop (omega arith)))
+  brief-at h = ap (asStep at) (none-of (drop at s) (simp length-drop (omega arith)))
 
   module _ (long : 4 ≤ length s - at) (size : ℕ) (size-is : numAt 2 (drop at s) 2 ≡ size) (place : ℕ) (place-is : place ≡ at + 4) where
     long′ : 4 ≤ length (drop at s)
@@ -82,28 +82,28 @@ module _ (s : List ℕ) (at : ℕ) where
 
     pub cut-at : length s - place < size → stepAt s at ≡ Bad (cutAt place)
     cut-at h =
-        ap (told at) (cut-of (drop at s) long′ (rw (length-drop, size-is) (omega arith)))
+        ap (asStep at) (cut-of (drop at s) long′ (rw (length-drop, size-is) (omega arith)))
         ∙ ap (λ (p : ℕ). Bad (cutAt p)) (sym place-is)
 
     pub whole-at : (kind : ℕ) → numAt 2 (drop at s) 0 ≡ kind → size ≤ length s - place
         → stepAt s at ≡ Whole (record { «info_type» = typeOf kind; «info_len» = size; «info_value» = view place size }) (cursor (place + size))
     whole-at kind kind-is h =
         let end-is : at + (4 + numAt 2 (drop at s) 2) ≡ place + size = omega arith in
-        ap (told at) (whole-of (drop at s) long′ (rw (length-drop, size-is) (omega arith)))
+        ap (asStep at) (whole-of (drop at s) long′ (rw (length-drop, size-is) (omega arith)))
         ∙ (λ i. Whole (record { «info_type» = typeOf (kind-is i); «info_len» = size-is i; «info_value» = view (sym place-is i) (size-is i) }) (cursor (end-is i)))
 
 -- ---- and the other way
-pub was-stop : (at p : ℕ) (x : Walk.Step Tlv) → told at x ≡ Stop p → (x ≡ stop) × (p ≡ at)
+pub was-stop : (at p : ℕ) (x : Walk.Step Tlv) → asStep at x ≡ Stop p → (x ≡ stop) × (p ≡ at)
 was-stop at p stop q = (refl, cc)
 was-stop at p (bad r) q = (cc, cc)
 was-stop at p (item t) q = (cc, cc)
 
-pub was-bad : (at : ℕ) (d : Refusal) (x : Walk.Step Tlv) → told at x ≡ Bad d → (r : Refusal) × (x ≡ bad r) × (from at r ≡ d)
+pub was-bad : (at : ℕ) (d : Refusal) (x : Walk.Step Tlv) → asStep at x ≡ Bad d → (r : Refusal) × (x ≡ bad r) × (from at r ≡ d)
 was-bad at d stop q = (d, cc, cc)
 was-bad at d (bad r) q = (r, refl, cc)
 was-bad at d (item t) q = (d, cc, cc)
 
-pub was-whole : (at : ℕ) (u : PeerUpNotificationTlv) (c : Cursor) (x : Walk.Step Tlv) → told at x ≡ Whole u c
+pub was-whole : (at : ℕ) (u : PeerUpNotificationTlv) (c : Cursor) (x : Walk.Step Tlv) → asStep at x ≡ Whole u c
     → (t : Tlv) × (x ≡ item t) × (entry at t ≡ u) × (at + sizeOf t ≡ c .at)
 was-whole at u c stop q = let z : _≡_ {A = ℕ} 0 1 = cc in absurd (omega arith)
 was-whole at u c (bad r) q = let z : _≡_ {A = ℕ} 0 1 = cc in absurd (omega arith)

@@ -25,12 +25,9 @@ use lib.ListN.{length}
 use Rattle.wire.specs.Bytes.{be, Bytes, Octets}
 use Rattle.wire.specs.Parts.{joinAll, EachGood}
 use Rattle.wire.specs.Tlv.{Tlv, putTlv, GoodTlv}
+use Rattle.wire.specs.Exactly.{Grammar}
 use Rattle.models.specs.declared.Afi.{Afi}
 use Rattle.models.specs.declared.Afi.the-variants.{Ipv4, Ipv6}
-
--- the widths of the fields before the messages, in order: an address is one field
-abbrev pub widths : List ℕ
-widths = 16 ∷ 2 ∷ 2 ∷ []
 
 -- ---- a BGP message
 pub record Message : Type 0 where
@@ -63,10 +60,18 @@ pub record Reading : Type 0 where
 abbrev pub joinTlvs : Reading → List ℕ
 joinTlvs r = joinAll putTlv (r .tlvs) (r .tail)
 
+abbrev pub joinMessages : Reading → List ℕ
+joinMessages r = messageBytes (r .sentOpen) ++ (messageBytes (r .receivedOpen) ++ joinTlvs r)
+
 abbrev pub join : Reading → List ℕ
-join r =
-    r .skipped ++ (r .address ++ (be 2 (r .localPort) ++ (be 2 (r .remotePort)
-    ++ (messageBytes (r .sentOpen) ++ (messageBytes (r .receivedOpen) ++ joinTlvs r)))))
+join r = r .skipped ++ (r .address ++ (be 2 (r .localPort) ++ (be 2 (r .remotePort) ++ joinMessages r)))
+
+-- the parts before the messages, and how many bytes each has: an address with what is skipped is one part
+abbrev pub frontParts : Reading → List (List ℕ)
+frontParts r = (r .skipped ++ r .address) ∷ be 2 (r .localPort) ∷ be 2 (r .remotePort) ∷ []
+
+abbrev pub widths : List ℕ
+widths = 16 ∷ 2 ∷ 2 ∷ []
 
 -- how many bytes are skipped before an address of a family, and how many the address has
 abbrev pub skippedFor : Afi → ℕ
@@ -93,3 +98,24 @@ pub record Good (afi : Afi) (r : Reading) : Type 0 where
   pub received-good : GoodMessage (r .receivedOpen)
   pub each : EachGood putTlv ReadTlv (r .tlvs) (r .tail)
   pub tail-good : GoodTail (r .tail)
+
+-- the table has 32 entries
+abbrev pub places : ℕ
+places = 32
+
+-- a reading fits the table
+abbrev pub Fits : Reading → Type 0
+Fits r = length (r .tlvs) ≤ places
+
+-- the grammar for a family of the address, with what fits the table, and the bytes that are skipped before the address
+abbrev pub grammar : Afi → Grammar
+grammar afi =
+    record {
+      Reading = Reading;
+      join = join;
+      Good = Good afi;
+      Fits = Fits;
+      Skipped = List ℕ;
+      skipped = λ r. r .skipped;
+      tail = λ r. r .tail;
+    }

@@ -1,4 +1,7 @@
 pub mod Grammar
 pub mod Warnings
 pub mod Shown
+pub mod Told
 pub mod Read
+pub mod Cuts
+pub mod Rfc

@@ -1,7 +1,7 @@
 -- What the reader answers, for every input.
 use Prim.Native.Nat.{ℕ, _+_, _-_}
 use mathlib.Core.Bool.{_||_}
-use mathlib.Core.List.{List, map}
+use mathlib.Core.List.{List, [], _∷_, map}
 use lib.ListN.{length, take, drop}
 use lib.Dec.{ltb}
 use Rattle.wire.specs.Number as Number
@@ -10,7 +10,7 @@ use Rattle.wire.specs.Refusal.{refusal, cutAt}
 use Rattle.cursor.specs.Read.{cursor}
 use Rattle.wire.specs.View.{view}
 use Rattle.wire.specs.Tlv.{Tlv, sizeOf}
-use Rattle.wire.specs.TlvAt.{tlvOf}
+use Rattle.wire.specs.TlvAt.{tlvOf, tlvWidths}
 use Rattle.wire.specs.Walk as Walk
 use Rattle.wire.specs.Walk.{stop, bad, item, from, Kit, Out, good, refused, readFrom}
 use Rattle.wire.specs.declared.View.{View}
@@ -19,9 +19,10 @@ use Rattle.layout.specs.Layout.{cutIn, sixteenAt}
 use Rattle.addresses.specs.Address.{shownIp}
 use Rattle.models.specs.declared.Afi.{Afi}
 use Rattle.peer_type.specs.declared.BmpPeerType.{BmpPeerType}
-use Rattle.peer_up_notification.specs.Grammar.{Message, widths}
+use Rattle.peer_up_notification.specs.Grammar.{widths, places, grammar}
 use Rattle.peer_up_notification.specs.Warnings.{Head, some, isTableName, badTableName, warningsOf}
-use Rattle.peer_up_notification.specs.Shown.{kindOf, places, entry, zeroTlv, sentAt, messageOf, goodAnswer, refusedAnswer, grammar, shown}
+use Rattle.peer_up_notification.specs.Told as Told
+use Rattle.peer_up_notification.specs.Shown.{kindOf, entry, zeroTlv, sentAt, messageOf, goodAnswer, refusedAnswer, shown}
 use Rattle.peer_up_notification.specs.declared.PeerUpNotificationTlv.{PeerUpNotificationTlv}
 use Rattle.peer_up_notification.specs.declared.PeerUpAnswer.{PeerUpAnswer}
 use Rattle.peer_up_notification.specs.declared.Front.{Front}
@@ -32,10 +33,6 @@ use Rattle.peer_up_notification.specs.declared.Step.{Step}
 use Rattle.peer_up_notification.specs.declared.Step.the-variants.{Stop, Bad, Whole}
 
 -- ---- what stands before the TLVs
--- the bytes of a BGP message by its parts
-abbrev pub openOf : List ℕ → Message
-openOf s = record { marker = take 16 s; size = numAt 2 s 16; rest = drop 18 s }
-
 -- a whole BGP message at a place, whose own length is judged before how much is left of it
 unfoldable pub openAt : List ℕ → ℕ → Open
 openAt s at =
@@ -61,17 +58,21 @@ step s =
     pick (ltb (length s) 4) stop
     (pick (ltb (length s - 4) (numAt 2 s 2)) (bad (cutAt 4)) (item (tlvOf s)))
 
+-- the widths of the parts of the TLV at the front
+abbrev pub widthsIn : List ℕ → List ℕ
+widthsIn s = tlvWidths (numAt 2 s 2)
+
 abbrev pub kit : Kit
 kit = record { Item = Tlv; Entry = PeerUpNotificationTlv; step = step; size = sizeOf; entry = entry; none = zeroTlv; limit = places }
 
 -- one step at a place, as the code answers it: the stop, the fault, or the entry and the cursor past it
-abbrev pub told : ℕ → Walk.Step Tlv → Step
-told at stop = Stop at
-told at (bad r) = Bad (from at r)
-told at (item t) = Whole (entry at t) (cursor (at + sizeOf t))
+abbrev pub asStep : ℕ → Walk.Step Tlv → Step
+asStep at stop = Stop at
+asStep at (bad r) = Bad (from at r)
+asStep at (item t) = Whole (entry at t) (cursor (at + sizeOf t))
 
 abbrev pub stepAt : List ℕ → ℕ → Step
-stepAt s at = told at (step (drop at s))
+stepAt s at = asStep at (step (drop at s))
 
 -- the warnings of a table's entries
 abbrev pub headIn : PeerUpNotificationTlv → Head
@@ -109,7 +110,21 @@ readPeerUp afi peer s =
     (pick (ltb (length s) sentAt) (refusedAnswer (cutIn widths 0 (length s)))
     (withSent afi peer s (openAt s sentAt)))
 
+-- the numbers that it refuses with
+abbrev pub numbers : List ℕ
+numbers = Number.TooLong ∷ Number.Cut ∷ Number.BgpLength ∷ Number.TooMany ∷ []
+
 -- the reader with its arguments fixed, and the grammar that it is held against
 abbrev pub reader : Afi → BmpPeerType → Reader
 reader afi peer =
-    record { grammar = grammar afi; Answer = PeerUpAnswer; read = readPeerUp afi peer; numberOf = λ a. a .refusal .number; shown = shown afi peer }
+    record {
+      grammar = grammar afi;
+      Answer = PeerUpAnswer;
+      read = readPeerUp afi peer;
+      shown = shown afi peer;
+      tailAt = λ a. a .stop;
+      told = Told.told;
+      refused = refusedAnswer;
+      refusalOf = λ a. a .refusal;
+      numbers = numbers;
+    }

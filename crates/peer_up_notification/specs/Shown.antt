@@ -1,5 +1,5 @@
 -- How a reading is shown in the answer, and what a refusal shows. Nothing here takes an input apart.
-use Prim.Native.Nat.{ℕ, _+_, _-_, _≤_}
+use Prim.Native.Nat.{ℕ, _+_, _-_}
 use mathlib.Core.List.{List, [], _∷_, _++_}
 use lib.ListN.{length, take, replicate, getD}
 use Rattle.wire.specs.Refusal.{noRefusal}
@@ -7,12 +7,11 @@ use Rattle.wire.specs.View.{view}
 use Rattle.wire.specs.Parts.{shownFrom, endFrom}
 use Rattle.wire.specs.Tlv.{Tlv, sizeOf}
 use Rattle.wire.specs.declared.Refusal.{Refusal}
-use Rattle.wire.specs.Exactly.{Grammar}
 use Rattle.models.specs.Address.{unspecified}
 use Rattle.models.specs.declared.Afi.{Afi}
 use Rattle.models.specs.declared.IpAddr.{IpAddr}
 use Rattle.peer_type.specs.declared.BmpPeerType.{BmpPeerType}
-use Rattle.peer_up_notification.specs.Grammar.{skippedFor, Reading, join, Good}
+use Rattle.peer_up_notification.specs.Grammar.{skippedFor, Reading, places}
 use Rattle.peer_up_notification.specs.Warnings.{warnings}
 use Rattle.peer_up_notification.specs.declared.PeerUpTlvType.{PeerUpTlvType}
 use Rattle.peer_up_notification.specs.declared.PeerUpTlvType.the-variants.{String, SysDescr, SysName, VrTableName, AdminLabel, Unknown}
@@ -38,10 +37,6 @@ kindOf (Unknown n) = n
 
 abbrev pub zeroTlv : PeerUpNotificationTlv
 zeroTlv = record { «info_type» = String; «info_len» = 0; «info_value» = view 0 0 }
-
--- the table has 32 entries
-abbrev pub places : ℕ
-places = 32
 
 unfoldable pub zeroTable : List PeerUpNotificationTlv
 zeroTable = replicate places zeroTlv
@@ -109,17 +104,9 @@ zeroFront =
 abbrev pub refusedAnswer : Refusal → PeerUpAnswer
 refusedAnswer r = record { refusal = r; stop = 0; warnings = 0; message = messageOf zeroFront 0 zeroTable }
 
--- a reading fits the table
-abbrev pub Fits : Reading → Type 0
-Fits r = length (r .tlvs) ≤ places
-
 -- the good answer: the TLVs in order, entries past the count zero, the stop where the last TLV ends and the tail starts
 abbrev pub shown : Afi → BmpPeerType → Reading → PeerUpAnswer
 shown afi peer r =
     goodAnswer (endFrom sizeOf (tlvsAt r) (r .tlvs)) (warnings peer r)
     (messageOf (shownFront afi r) (length (r .tlvs))
     (shownFrom sizeOf entry (tlvsAt r) (r .tlvs) ++ replicate (places - length (r .tlvs)) zeroTlv))
-
--- the grammar for a family of the address, with what fits the table
-abbrev pub grammar : Afi → Grammar
-grammar afi = record { Reading = Reading; join = join; Good = Good afi; Fits = Fits }

@@ -24,15 +24,16 @@ use Rattle.addresses.specs.Address.{shownIp}
 use Rattle.models.specs.declared.IpAddr.{IpAddr}
 use Rattle.models.proofs.Promises.{equals-is-equality}
 use Rattle.peer_type.specs.declared.BmpPeerType.{BmpPeerType}
-use Rattle.peer_up_notification.specs.Grammar.{messageBytes, ReadTlv, skippedFor, Reading, join}
-use Rattle.peer_up_notification.specs.Shown.{kindOf, zeroTlv, places, entry, tlvsAt, shownAddress, shown, kept}
-use Rattle.peer_up_notification.specs.Read.{reader, openOf}
+use Rattle.peer_up_notification.specs.Grammar.{messageBytes, ReadTlv, skippedFor, Reading, join, places}
+use Rattle.peer_up_notification.specs.Shown.{kindOf, zeroTlv, entry, tlvsAt, shownAddress, shown, kept}
+use Rattle.peer_up_notification.specs.Told.{openOf}
+use Rattle.peer_up_notification.specs.Read.{reader}
 use Rattle.peer_up_notification_writer.specs.Write.{partOf, addressWritable, openWritable, writer, bytesOf, tlvsWritable, writable, entryOf, Typed, SameTlv, Same}
 use Rattle.peer_up_notification.specs.declared.PeerUpNotificationTlv.{PeerUpNotificationTlv}
 use Rattle.peer_up_notification.specs.declared.PeerUpNotification.{PeerUpNotification}
 use Rattle.peer_up_notification.specs.declared.PeerUpAnswer.{PeerUpAnswer}
 use Rattle.peer_up_notification.proofs.Address.{address-shown}
-use Rattle.peer_up_notification.proofs.Names.{kindOf-typeOf}
+use Rattle.peer_up_notification.proofs.Names.{kind-told}
 use Rattle.peer_up_notification.proofs.Opens.{OneMessage, one-message}
 use Rattle.peer_up_notification_writer.proofs.Written.{fine-from, translates, open-from}
 use Rattle.peer_up_notification.proofs.Shows.{ViewAt, ShowsParts}
@@ -70,7 +71,7 @@ all-fine b (t ∷ l) z g h =
 -- an item that is shown as an entry is that entry's
 one-part : (b s : List ℕ) (at : ℕ) (x : Tlv) (t : PeerUpNotificationTlv) → ViewAt s at x → SameTlv t b (entry at x) s → x ≡ partOf b t
 one-part b s at x t v e =
-    let kind-is : x .kind ≡ kindOf (t .«info_type») = sym (e .kind-same ∙ kindOf-typeOf (x .kind)) in
+    let kind-is : x .kind ≡ kindOf (t .«info_type») = sym (e .kind-same ∙ kind-told (x .kind)) in
     let value-is = sym (e .bytes-same ∙ v) in
     λ i. record { kind = kind-is i; size = sym (e .len-same) i; value = value-is i }
 

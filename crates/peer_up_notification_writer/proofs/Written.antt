@@ -1,14 +1,14 @@
 -- What the writing kit asks of a Peer Up body, and what `writable` asks of a record. Assumes nothing.
 use mathlib.Core.Path.{_≡_, refl, sym, ap, ap₂, _∙_}
 use mathlib.Core.Bool.{Bool, true, false, _&&_, and-false, and-assoc, and-eq-true-iff}
-use mathlib.Core.List.{List, [], _∷_, _++_, append-assoc}
-use Prim.Native.Nat.{ℕ, suc, _+_, _^_, _≤_, _<_}
+use mathlib.Core.List.{List, _++_, append-assoc}
+use Prim.Native.Nat.{ℕ, _+_, _^_, _≤_, _<_}
 use native.Mathlib.Omega.{arith}
 use borrow.Author.Tests.{leb-true, ltb-true, eqb-true, le-leb, lt-ltb, eq-eqb}
 use lib.Dec.{leb, ltb, eqb}
-use lib.ListN.{length, drop, getD, replicate, length-append}
+use lib.ListN.{length, drop, replicate, length-append}
 use lib.Seq.{sets}
-use Rattle.wire.specs.Bytes.{pick, be, numAt, numberAt, Bytes, none, more}
+use Rattle.wire.specs.Bytes.{pick, be, numAt, numberAt, Bytes}
 use Rattle.wire.specs.View.{inside, viewed}
 use Rattle.wire.specs.declared.Refusal.{Refusal}
 use Rattle.wire.specs.declared.View.{View}
@@ -30,9 +30,9 @@ use Rattle.tlv_table.proofs.Translated.{Translates, writable-same, bytes-same}
 use Rattle.addresses.specs.Address.{shownIp}
 use Rattle.models.specs.declared.IpAddr.{IpAddr}
 use Rattle.models.proofs.Promises.{equals-is-equality}
-use Rattle.peer_up_notification.specs.Grammar.{messageBytes, skippedFor}
-use Rattle.peer_up_notification.specs.Shown.{kindOf, places, shownAddress, kept}
-use Rattle.peer_up_notification.specs.Read.{openOf}
+use Rattle.peer_up_notification.specs.Grammar.{messageBytes, skippedFor, places}
+use Rattle.peer_up_notification.specs.Shown.{kindOf, shownAddress, kept}
+use Rattle.peer_up_notification.specs.Told.{openOf}
 use Rattle.peer_up_notification_writer.specs.Write.{addressWritable, openWritable, tlvWritable, writer, bytesOf, tlvsWritable, frontWritable, writable, frontBytes, frontLength, entryOf, tableOf}
 use Rattle.peer_up_notification.specs.declared.PeerUpNotificationTlv.{PeerUpNotificationTlv}
 use Rattle.peer_up_notification.specs.declared.PeerUpNotification.{PeerUpNotification}
@@ -267,8 +267,3 @@ module _ (m : PeerUpNotification) (b : List ℕ) (p : Bytes b) (sixteen : length
         put-there (writable m b) (bytesOf m b) out (front + length (tableBytes t b)) long a asked-so k q out″
         (f ∙ ap (λ (o : List ℕ). sets o 0 (frontBytes m b)) behind ∙ sets-in-front (frontBytes m b) tlvs out (frontLength m) n (front-was .1)
         ∙ ap (sets out 0) (sym (bytes-are m b p w)))
-
--- what a slice of u8 holds are bytes, from what it says of each
-pub slice-bytes : (l : List ℕ) → ((i : ℕ) → getD l i 0 < 256) → Bytes l
-slice-bytes [] h = none
-slice-bytes (x ∷ l) h = more (h 0) (slice-bytes l (λ i. h (suc i)))

@@ -17,9 +17,9 @@ use Rattle.tlv_table.specs.declared.TlvTable.{TlvTable}
 use Rattle.addresses.specs.Address.{shownIp}
 use Rattle.models.specs.Address.{sameAddress}
 use Rattle.models.specs.declared.IpAddr.{IpAddr}
-use Rattle.peer_up_notification.specs.Grammar.{skippedFor, Reading, join}
-use Rattle.peer_up_notification.specs.Shown.{kindOf, zeroTlv, places, kept}
-use Rattle.peer_up_notification.specs.Read.{openOf}
+use Rattle.peer_up_notification.specs.Grammar.{skippedFor, Reading, join, places}
+use Rattle.peer_up_notification.specs.Shown.{kindOf, zeroTlv, kept}
+use Rattle.peer_up_notification.specs.Told.{openOf}
 use Rattle.peer_up_notification.specs.declared.PeerUpNotificationTlv.{PeerUpNotificationTlv}
 use Rattle.peer_up_notification.specs.declared.PeerUpNotification.{PeerUpNotification}
 

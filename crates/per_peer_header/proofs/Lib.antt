@@ -2,5 +2,8 @@ pub mod Address
 pub mod Warned
 pub mod Fields
 pub mod Laws
+pub mod Told
+pub mod Refusals
 pub mod Promises
+pub mod Rfc
 pub mod Specimens

@@ -2,27 +2,31 @@
 use Prim.Native.Nat.{ℕ, _+_, _≤_, _<_}
 use mathlib.Core.Bool.{Bool, true, false}
 use mathlib.Core.Path.{_≡_, refl, sym, ap, _∙_, subst}
-use mathlib.Core.List.{List}
+use mathlib.Core.List.{List, map, [], _∷_}
 use native.Mathlib.Omega.{arith}
 use borrow.Author.Tests.{lt-ltb, le-ltb}
 use lib.ListN.{length, take, drop}
 use Rattle.wire.specs.Number as Number
-use Rattle.wire.specs.Bytes.{pick, numAt, numberAt, Octets}
+use Rattle.wire.specs.Bytes.{pick, numAt, numberAt, Octets, be}
 use Rattle.wire.specs.Refusal.{refusal, noRefusal, cutAt}
 use Rattle.wire.proofs.Bytes.{num-lt, bytes-drop, number-is}
 use Rattle.wire.proofs.Views.{octets-part}
 use Rattle.wire.proofs.Determined.{determined}
-use Rattle.wire.specs.Exactly.{Sound, Complete, Unique}
+use Rattle.wire.specs.Lacking.{FirstLacking}
+use Rattle.wire.specs.Refuses.{Refuses}
+use Rattle.wire.specs.Exactly.{Sound, Complete, Told, Unique}
 use Rattle.layout.specs.Layout.{firstCut}
-use Rattle.layout.proofs.Promises.{FirstLacking, first-lacking}
-use Rattle.per_peer_header.specs.Grammar.{widths, Reading, addressBytes, join}
+use Rattle.layout.proofs.Promises.{first-lacking}
+use Rattle.per_peer_header.specs.Grammar.{widths, Reading, addressBytes, join, grammar, parts, Good}
 use Rattle.models.specs.Warnings.{countOnes}
 use Rattle.per_peer_header.specs.Warnings.{strayAddress, noRouterId, warnings}
-use Rattle.per_peer_header.specs.Shown.{shown, refused, grammar}
+use Rattle.per_peer_header.specs.Shown.{shown, refused}
 use Rattle.per_peer_header.specs.Read.{partsOf, readPerPeerHeader, reader}
 use Rattle.per_peer_header.specs.declared.PerPeerHeaderAnswer.{PerPeerHeaderAnswer}
-use Rattle.per_peer_header.proofs.Fields.{address-fits, as-fits, fields-layout, layout-known}
+use Rattle.per_peer_header.proofs.Fields.{address-fits, as-fits, fields-layout, layout-known, length-address, length-as}
 use Rattle.per_peer_header.proofs.Laws.{length-join, parts-join, join-parts, Accepted, accepted, shows-parts}
+use Rattle.per_peer_header.proofs.Told as ToldProofs
+use Rattle.per_peer_header.proofs.Refusals as Refusals
 
 -- What the reader accepts has a good reading, which it shows.
 pub sound : Sound reader
@@ -64,6 +68,14 @@ complete r g f short =
     } in
     shows-parts (join r) a ∙ ap shown e
 
+-- Every good reading is told by the answer that shows it, with what is skipped and the tail.
+pub told-back : Told reader
+told-back = ToldProofs.told-back
+
+-- A refusal shows nothing but itself, and has one of the reader's numbers; each of these is given for some input.
+pub refuses : Refuses reader
+refuses = Refusals.refuses
+
 -- No input has two readings.
 pub unique : Unique grammar
 unique r q g h e = sym (parts-join r g) ∙ ap partsOf e ∙ parts-join q h
@@ -87,6 +99,12 @@ module _ (s : List ℕ) (short : length s ≤ Number.limit) where
     rw (le-ltb Number.limit (length s) short, le-ltb 3 (numberAt 1 s 0) known, lt-ltb (length s) 42 cut),
     first-lacking widths 0 (length s) (omega arith) (omega arith),
   )
+
+-- The widths by which a Cut is placed are those of the parts that are joined.
+pub widths-are : (r : Reading) → Good r → map length (parts r) ≡ widths
+unfolding be
+widths-are r g =
+    λ i. 1 ∷ 1 ∷ 8 ∷ length-address (r .address) (g .address-fits) i ∷ length-as (r .asn) i ∷ 4 ∷ 4 ∷ 4 ∷ []
 
 -- ---- warnings
 -- The ones of the word are as many as the warnings that are given.

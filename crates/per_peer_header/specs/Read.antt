@@ -1,6 +1,6 @@
 -- What the reader answers, for every input.
 use Prim.Native.Nat.{ℕ, _/_, _%_, _^_}
-use mathlib.Core.List.{List}
+use mathlib.Core.List.{List, [], _∷_}
 use lib.Dec.{ltb}
 use lib.ListN.{length, take, drop}
 use Rattle.wire.specs.Number as Number
@@ -9,8 +9,9 @@ use Rattle.wire.specs.Refusal.{refusal}
 use Rattle.wire.specs.Exactly.{Reader}
 use Rattle.layout.specs.Layout.{cutIn}
 use Rattle.peer_type.specs.Peer.{isLocRib, flagV, flagA}
-use Rattle.per_peer_header.specs.Grammar.{widths, AddressField, ipv4, ipv6, unused, AsField, as16, as32, Reading}
-use Rattle.per_peer_header.specs.Shown.{shown, refused, grammar}
+use Rattle.per_peer_header.specs.Grammar.{widths, AddressField, ipv4, ipv6, unused, AsField, as16, as32, Reading, grammar}
+use Rattle.per_peer_header.specs.Shown.{shown, refused}
+use Rattle.per_peer_header.specs.Told.{told}
 use Rattle.per_peer_header.specs.declared.PerPeerHeaderAnswer.{PerPeerHeaderAnswer}
 
 -- the sixteen bytes of an address, and the number of an AS's four, taken apart by type and flags
@@ -45,6 +46,21 @@ readPerPeerHeader s =
     (pick (ltb (length s) 42) (refused (cutIn widths 0 (length s)))
     (shown (partsOf s))))
 
+-- the numbers that it refuses with
+abbrev pub numbers : List ℕ
+numbers = Number.TooLong ∷ Number.Cut ∷ Number.UnknownKind ∷ []
+
 -- the reader, and the grammar that it is held against
 abbrev pub reader : Reader
-reader = record { grammar = grammar; Answer = PerPeerHeaderAnswer; read = readPerPeerHeader; numberOf = λ a. a .refusal .number; shown = shown }
+reader =
+    record {
+      grammar = grammar;
+      Answer = PerPeerHeaderAnswer;
+      read = readPerPeerHeader;
+      shown = shown;
+      tailAt = λ a. a .stop;
+      told = told;
+      refused = refused;
+      refusalOf = λ a. a .refusal;
+      numbers = numbers;
+    }

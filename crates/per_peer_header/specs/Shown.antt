@@ -5,12 +5,11 @@ use lib.ListN.{replicate}
 use lib.Ieee.{binary64, ofBits}
 use Rattle.wire.specs.Refusal.{noRefusal}
 use Rattle.wire.specs.declared.Refusal.{Refusal}
-use Rattle.wire.specs.Exactly.{Grammar, noTable}
 use Rattle.models.specs.Address.{unspecified}
 use Rattle.times.specs.Time.{timeOf}
 use Rattle.models.specs.declared.Afi.the-variants.{Ipv4, Ipv6}
 use Rattle.models.specs.declared.IpAddr.{IpAddr}
-use Rattle.per_peer_header.specs.Grammar.{AddressField, ipv4, ipv6, unused, AsField, as16, as32, Reading, join, Good}
+use Rattle.per_peer_header.specs.Grammar.{AddressField, ipv4, ipv6, unused, AsField, as16, as32, Reading}
 use Rattle.per_peer_header.specs.Warnings.{warnings}
 use Rattle.peer_type.specs.Peer.{typeOf}
 use Rattle.peer_type.specs.declared.BmpPeerType.the-variants.{Global}
@@ -62,7 +61,3 @@ zeroHeader =
 
 abbrev pub refused : Refusal → PerPeerHeaderAnswer
 refused r = record { refusal = r; stop = 0; warnings = 0; header = zeroHeader }
-
--- the grammar; there is no table
-abbrev pub grammar : Grammar
-grammar = record { Reading = Reading; join = join; Good = Good; Fits = noTable }

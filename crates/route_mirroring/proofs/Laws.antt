@@ -15,8 +15,8 @@ use Rattle.cursor.specs.declared.Cursor.{Cursor}
 use Rattle.wire.proofs.Bytes.{num-lt}
 use Rattle.wire.proofs.Tlv.{tlv-length, tlv-there, tlv-join, tlv-rest, tlv-parts, coded-join, coded-parts}
 use Rattle.wire.proofs.Walk.{Takes, Faults, Laws, Tails, onwards, TurnTo, turn-to, onwards-bad}
-use Rattle.route_mirroring.specs.Grammar.{Tlv, bgpMessage, information, put, GoodInformation, ReadTlv, GoodTail}
-use Rattle.route_mirroring.specs.Shown.{sizeOf, refusedAnswer}
+use Rattle.route_mirroring.specs.Grammar.{Tlv, bgpMessage, information, put, GoodInformation, ReadTlv, GoodTail, sizeOf}
+use Rattle.route_mirroring.specs.Shown.{refusedAnswer}
 use Rattle.route_mirroring.specs.Read.{messageOf, step, stepAt, kit, answer}
 use Rattle.route_mirroring.specs.declared.RouteMirroringTlv.{RouteMirroringTlv}
 use Rattle.route_mirroring.specs.declared.Step.the-variants.{Bad, Whole}

@@ -1,20 +1,28 @@
 -- What a user of the Route Mirroring body relies on. Assumes nothing.
 use mathlib.Core.Path.{_≡_, refl}
 use mathlib.Core.List.{List}
-use Prim.Native.Nat.{ℕ}
-use lib.ListN.{length}
-use Rattle.wire.specs.Parts.{AllAt}
+use Prim.Native.Nat.{ℕ, _≤_, _<_}
+use lib.ListN.{length, take}
+use Rattle.wire.specs.Parts.{AllAt, endFrom}
 use Rattle.wire.proofs.Determined.{determined}
 use Rattle.wire.proofs.Exactly.{not-too-long}
 use Rattle.wire.proofs.Walk.{read-complete, each-at, read-accepted}
 use Rattle.wire.proofs.Walk as Walk
-use Rattle.wire.specs.Exactly.{Sound, Complete, Unique}
-use Rattle.route_mirroring.specs.Grammar.{Reading, join, Good}
-use Rattle.route_mirroring.specs.Shown.{sizeOf, grammar}
-use Rattle.route_mirroring.specs.Read.{kit, readMirroring, reader, answer}
+use Rattle.wire.specs.Refuses.{Refuses}
+use Rattle.wire.specs.Exactly.{Sound, Complete, Told, Unique}
+use Rattle.wire.specs.Number as Number
+use Rattle.wire.specs.Refusal.{refusal}
+use Rattle.wire.specs.Bytes.{Bytes}
+use Rattle.wire.specs.Lacking.{CutAfter}
+use Rattle.route_mirroring.specs.Grammar.{Reading, join, Good, sizeOf, grammar, places, put, ReadTlv}
+use Rattle.route_mirroring.specs.Read.{kit, readMirroring, reader, answer, widthsIn}
 use Rattle.route_mirroring.specs.declared.RouteMirroringAnswer.{RouteMirroringAnswer}
+use Rattle.route_mirroring.specs.Shown.{refusedAnswer}
 use Rattle.route_mirroring.proofs.Laws.{faults, laws, tails}
 use Rattle.route_mirroring.proofs.Shows.{shows-of, ViewAt, view-at}
+use Rattle.route_mirroring.proofs.Told as ToldProofs
+use Rattle.route_mirroring.proofs.Refusals as Refusals
+use Rattle.route_mirroring.proofs.Cuts as Cuts
 
 -- What the reader accepts has a good reading that fits, and it shows that reading.
 pub sound : Sound reader
@@ -28,6 +36,19 @@ pub complete : Complete reader
 complete r g f short =
     shows-of (join r) short (r .tlvs) (r .tail) (read-complete kit laws tails 0 (join r) (r .tlvs) (r .tail) (g .each) (g .tail-good) refl f) .shown-so
 
+-- Every good reading that fits is told by the answer that shows it.
+pub told-back : Told reader
+told-back = ToldProofs.told-back
+
+-- A refusal shows nothing but itself, and has one of the reader's numbers; each of these is given for some input.
+pub refuses : Refuses reader
+refuses = Refusals.refuses
+
+-- A good reading of more TLVs than the table holds is refused with TooMany, at the first that has no room.
+pub too-many : (r : Reading) → Good r → length (join r) ≤ Number.limit → places < length (r .tlvs)
+    → readMirroring (join r) ≡ refusedAnswer (refusal Number.TooMany (endFrom sizeOf 0 (take places (r .tlvs))))
+too-many = Refusals.too-many
+
 -- No input has two readings, whatever the table holds.
 pub unique : Unique grammar
 unique r q g h e =
@@ -37,6 +58,10 @@ unique r q g h e =
 -- In the answer that shows a good reading, the view of each BGP message shows that message's bytes, and each information has its code.
 pub views : (r : Reading) → Good r → AllAt sizeOf (ViewAt (join r)) 0 (r .tlvs)
 views r g = each-at kit laws (ViewAt (join r)) (join r) (view-at (join r)) (r .tlvs) (r .tail) 0 (g .each) refl
+
+-- A Cut is at the first part that is not whole, behind TLVs that are.
+pub refuses-cut : (s : List ℕ) → Bytes s → readMirroring s .refusal .number ≡ Number.Cut → CutAfter put ReadTlv sizeOf widthsIn 0 s (readMirroring s .refusal .place)
+refuses-cut = Cuts.refuses-cut
 
 -- ---- any two answers that the contracts allow are equal
 pub parse-determined : (s : List ℕ) (a b : RouteMirroringAnswer) → a ≡ readMirroring s → b ≡ readMirroring s → a ≡ b

@@ -1,7 +1,7 @@
 -- What the reader shows: a good reading, with entries that show its values. Assumes nothing.
 use mathlib.Core.Path.{_≡_, refl, ap}
 use mathlib.Core.List.{List}
-use Prim.Native.Nat.{ℕ, zero, suc, _≤_}
+use Prim.Native.Nat.{ℕ, _≤_}
 use native.Mathlib.Omega.{arith}
 use borrow.Author.Tests.{le-ltb}
 use lib.ListN.{length, drop}
@@ -9,15 +9,17 @@ use Rattle.wire.specs.Number as Number
 use Rattle.wire.specs.View.{viewed}
 use Rattle.wire.proofs.Tlv.{tlv-viewed}
 use Rattle.wire.proofs.Walk as Walk
+use Rattle.wire.proofs.Arms.{number-of-name}
 use Rattle.wire.specs.Exactly.{Shows}
 use Rattle.route_mirroring.specs.Grammar.{Tlv, bgpMessage, information, put, ReadTlv}
-use Rattle.route_mirroring.specs.Shown.{infoOf, codeOf, entry}
+use Rattle.route_mirroring.specs.Shown.{infoOf, codeOf, entry, names}
 use Rattle.route_mirroring.specs.Read.{kit, answer, reader}
 use Rattle.route_mirroring.specs.declared.RouteMirroringValue.{RouteMirroringValue}
 use Rattle.route_mirroring.specs.declared.RouteMirroringValue.the-variants.{BgpMessage, Information}
+use Rattle.route_mirroring.specs.declared.RouteMirroringInfo.the-variants.{MessageLost}
 use Rattle.route_mirroring.proofs.Laws.{laws, tails}
 
-pub shows-of : (s : List ℕ) → length s ≤ Number.limit → (l : List Tlv) (z : List ℕ) → Walk.Accepts kit laws tails 0 s l z → Shows reader s (record { tlvs = l; tail = z })
+pub shows-of : (s : List ℕ) → length s ≤ Number.limit → (l : List Tlv) (z : List ℕ) → Walk.ShowsItems kit laws tails 0 s l z → Shows reader s (record { tlvs = l; tail = z })
 shows-of s h l z a =
     record {
       reading = record { is-good = record { each = a .each; tail-good = a .tail-good }; fits = a .few; joined = a .joined };
@@ -34,13 +36,11 @@ ShowsValue s (Information i) (information size code) = codeOf i ≡ code
 abbrev pub ViewAt : List ℕ → ℕ → Tlv → Type 0
 ViewAt s at t = ShowsValue s (entry at t .value) t
 
-named : (n : ℕ) → n ≤ 1 → codeOf (infoOf n) ≡ n
+pub code-told : (n : ℕ) → n ≤ 1 → codeOf (infoOf n) ≡ n
 unfolding infoOf codeOf
-named zero h = refl
-named (suc zero) h = refl
-named (suc (suc n)) h = absurd (omega arith)
+code-told n h = number-of-name codeOf n MessageLost names refl (λ k. omega arith)
 
 -- and so does the value of the entry that shows a TLV of s at its place
 pub view-at : (s : List ℕ) (at : ℕ) (t : Tlv) (r : List ℕ) → ReadTlv t r → drop at s ≡ put t r → ViewAt s at t
 view-at s at (bgpMessage size value) r g e = tlv-viewed (record { kind = 0; size = size; value = value }) r (g .well-formed) s at e
-view-at s at (information size code) r g e = named code (g .known)
+view-at s at (information size code) r g e = code-told code (g .known)

@@ -17,9 +17,9 @@ use Rattle.wire.specs.Walk as Walk
 use Rattle.wire.specs.Walk.{stop, bad, item, from}
 use Rattle.wire.specs.declared.Refusal.{Refusal}
 use Rattle.cursor.specs.declared.Cursor.{Cursor}
-use Rattle.route_mirroring.specs.Grammar.{Tlv}
-use Rattle.route_mirroring.specs.Shown.{infoOf, sizeOf, entry}
-use Rattle.route_mirroring.specs.Read.{messageOf, informationOf, messageStep, informationStep, step, told, stepAt}
+use Rattle.route_mirroring.specs.Grammar.{Tlv, sizeOf}
+use Rattle.route_mirroring.specs.Shown.{infoOf, entry}
+use Rattle.route_mirroring.specs.Read.{messageOf, informationOf, messageStep, informationStep, step, asStep, stepAt}
 use Rattle.route_mirroring.specs.declared.RouteMirroringTlv.{RouteMirroringTlv}
 use Rattle.route_mirroring.specs.declared.RouteMirroringInfo.the-variants.{MessageLost}
 use Rattle.route_mirroring.specs.declared.RouteMirroringValue.the-variants.{BgpMessage, Information}
@@ -135,7 +135,7 @@ numbered s r (info i) q = let z : _≡_ {A = ℕ} 0 1 = cc in absurd (omega arit
 -- ---- each answer of `step_at`
 module _ (s : List ℕ) (at : ℕ) where
   pub brief-at : length s - at ≤ 4 → stepAt s at ≡ Stop at
-  brief-at h = ap (told at) (none-of (drop at s) (simp length-drop h))
+  brief-at h = ap (asStep at) (none-of (drop at s) (simp length-drop h))
 
   module _ (long : 4 < length s - at) (kind : ℕ) (kind-is : numAt 2 (drop at s) 0 ≡ kind) where
     long′ : 4 < length (drop at s)
@@ -145,31 +145,31 @@ module _ (s : List ℕ) (at : ℕ) where
     unfolding step
     strange-at h = rw (lt-leb (length (drop at s)) 4 long′, kind-is, lt-ltb 1 kind h, add-zero at)
 
-    pub message-at : kind ≡ 0 → stepAt s at ≡ told at (messageStep (drop at s))
-    message-at h = ap (told at) (message-of (drop at s) long′ (kind-is ∙ h))
+    pub message-at : kind ≡ 0 → stepAt s at ≡ asStep at (messageStep (drop at s))
+    message-at h = ap (asStep at) (message-of (drop at s) long′ (kind-is ∙ h))
 
-    pub information-at : kind ≡ 1 → stepAt s at ≡ told at (informationStep (drop at s))
-    information-at h = ap (told at) (information-of (drop at s) long′ (kind-is ∙ h))
+    pub information-at : kind ≡ 1 → stepAt s at ≡ asStep at (informationStep (drop at s))
+    information-at h = ap (asStep at) (information-of (drop at s) long′ (kind-is ∙ h))
 
 -- ---- each answer of `message_at` and of `information_at`, where the value starts at a place
 module _ (s : List ℕ) (at size : ℕ) (size-is : size ≡ numAt 2 (drop at s) 2) (place : ℕ) (place-is : place ≡ at + 4) where
-  pub small-at : size < 19 → told at (messageStep (drop at s)) ≡ Bad (refusal Number.BgpLength (at + 2))
+  pub small-at : size < 19 → asStep at (messageStep (drop at s)) ≡ Bad (refusal Number.BgpLength (at + 2))
   unfolding messageStep
   small-at h = rw (← size-is, lt-ltb size 19 h)
 
-  pub cut-at : 19 ≤ size → length s - place < size → told at (messageStep (drop at s)) ≡ Bad (cutAt place)
+  pub cut-at : 19 ≤ size → length s - place < size → asStep at (messageStep (drop at s)) ≡ Bad (cutAt place)
   unfolding messageStep
   cut-at h l = rw (← size-is, le-ltb size 19 h, lt-ltb (length (drop at s) - 4) size (simp length-drop (omega arith)), place-is)
 
   pub message-there : 19 ≤ size → size ≤ length s - place
-      → told at (messageStep (drop at s)) ≡ Whole (record { «info_len» = size; value = BgpMessage (view place size) }) (cursor (place + size))
+      → asStep at (messageStep (drop at s)) ≡ Whole (record { «info_len» = size; value = BgpMessage (view place size) }) (cursor (place + size))
   unfolding messageStep
   message-there h l =
       let end-is : at + (4 + size) ≡ place + size = omega arith in
       rw (← size-is, le-ltb size 19 h, le-ltb (length (drop at s) - 4) size (simp length-drop (omega arith)))
       (λ i. Whole (record { «info_len» = size; value = BgpMessage (view (sym place-is i) size) }) (cursor (end-is i)))
 
-  pub short-at : length s - place < 2 → told at (informationStep (drop at s)) ≡ Bad (cutAt place)
+  pub short-at : length s - place < 2 → asStep at (informationStep (drop at s)) ≡ Bad (cutAt place)
   unfolding informationStep
   short-at l = rw (lt-ltb (length (drop at s) - 4) 2 (simp length-drop (omega arith)), place-is)
 
@@ -177,29 +177,29 @@ module _ (s : List ℕ) (at size : ℕ) (size-is : size ≡ numAt 2 (drop at s) 
     there′ : 2 ≤ length (drop at s) - 4
     there′ = simp length-drop (omega arith)
 
-    pub unknown-at : 1 < code → told at (informationStep (drop at s)) ≡ Bad (refusal Number.UnknownKind place)
+    pub unknown-at : 1 < code → asStep at (informationStep (drop at s)) ≡ Bad (refusal Number.UnknownKind place)
     unfolding informationStep
     unknown-at h = rw (le-ltb (length (drop at s) - 4) 2 there′, code-is, lt-ltb 1 code h, place-is)
 
     pub information-there : code ≤ 1 → (after : Cursor) → after .at ≡ place + 2
-        → told at (informationStep (drop at s)) ≡ Whole (record { «info_len» = size; value = Information (infoOf code) }) after
+        → asStep at (informationStep (drop at s)) ≡ Whole (record { «info_len» = size; value = Information (infoOf code) }) after
     unfolding informationStep
     information-there h after after-is =
         let end-is : at + 6 ≡ after .at = omega arith in
         rw (le-ltb (length (drop at s) - 4) 2 there′, code-is, le-ltb 1 code h, ← size-is, end-is)
 
 -- ---- and the other way
-pub was-stop : (at p : ℕ) (x : Walk.Step Tlv) → told at x ≡ Stop p → (x ≡ stop) × (p ≡ at)
+pub was-stop : (at p : ℕ) (x : Walk.Step Tlv) → asStep at x ≡ Stop p → (x ≡ stop) × (p ≡ at)
 was-stop at p stop q = (refl, cc)
 was-stop at p (bad r) q = (cc, cc)
 was-stop at p (item t) q = (cc, cc)
 
-pub was-bad : (at : ℕ) (d : Refusal) (x : Walk.Step Tlv) → told at x ≡ Bad d → (r : Refusal) × (x ≡ bad r) × (from at r ≡ d)
+pub was-bad : (at : ℕ) (d : Refusal) (x : Walk.Step Tlv) → asStep at x ≡ Bad d → (r : Refusal) × (x ≡ bad r) × (from at r ≡ d)
 was-bad at d stop q = (d, cc, cc)
 was-bad at d (bad r) q = (r, refl, cc)
 was-bad at d (item t) q = (d, cc, cc)
 
-pub was-whole : (at : ℕ) (u : RouteMirroringTlv) (c : Cursor) (x : Walk.Step Tlv) → told at x ≡ Whole u c
+pub was-whole : (at : ℕ) (u : RouteMirroringTlv) (c : Cursor) (x : Walk.Step Tlv) → asStep at x ≡ Whole u c
     → (t : Tlv) × (x ≡ item t) × (entry at t ≡ u) × (at + sizeOf t ≡ c .at)
 was-whole at u c stop q = let z : _≡_ {A = ℕ} 0 1 = cc in absurd (omega arith)
 was-whole at u c (bad r) q = let z : _≡_ {A = ℕ} 0 1 = cc in absurd (omega arith)

@@ -9,12 +9,13 @@
 --     tail                               at most 4 bytes
 --
 -- A TLV is read while more than 4 bytes are left. Each TLV has more than 4 itself, so it asks nothing of what follows it.
-use Prim.Native.Nat.{ℕ, _^_, _≤_, _<_}
+use Prim.Native.Nat.{ℕ, _^_, _≤_, _<_, _+_}
 use mathlib.Core.List.{List, _++_}
 use lib.ListN.{length}
 use Rattle.wire.specs.Bytes.{be, Bytes}
 use Rattle.wire.specs.Parts.{joinAll, EachGood}
 use Rattle.wire.specs.Tlv.{GoodTlv}
+use Rattle.wire.specs.Exactly.{Grammar, Nothing, skipsNothing}
 
 -- a BGP message with its length and its bytes, or information with its length and its code
 pub data Tlv : Type 0 where
@@ -52,3 +53,29 @@ GoodTail z = (length z ≤ 4) × Bytes z
 pub record Good (r : Reading) : Type 0 where
   pub each : EachGood put ReadTlv (r .tlvs) (r .tail)
   pub tail-good : GoodTail (r .tail)
+
+-- how many bytes a TLV takes: information always 6
+abbrev pub sizeOf : Tlv → ℕ
+sizeOf (bgpMessage size value) = 4 + size
+sizeOf (information size code) = 6
+
+-- the table has 32 entries
+abbrev pub places : ℕ
+places = 32
+
+-- a reading fits the table
+abbrev pub Fits : Reading → Type 0
+Fits r = length (r .tlvs) ≤ places
+
+-- the grammar, with what fits the table
+abbrev pub grammar : Grammar
+grammar =
+    record {
+      Reading = Reading;
+      join = join;
+      Good = Good;
+      Fits = Fits;
+      Skipped = Nothing;
+      skipped = skipsNothing;
+      tail = λ r. r .tail;
+    }

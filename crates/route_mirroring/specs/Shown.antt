@@ -1,13 +1,12 @@
 -- How a reading is shown in the answer. Nothing here takes an input apart.
-use Prim.Native.Nat.{ℕ, _+_, _-_, _≤_}
+use Prim.Native.Nat.{ℕ, _+_, _-_}
 use mathlib.Core.List.{List, [], _∷_, _++_}
 use lib.ListN.{length, replicate, getD}
 use Rattle.wire.specs.Refusal.{noRefusal}
 use Rattle.wire.specs.View.{view}
 use Rattle.wire.specs.Parts.{shownFrom, endFrom}
 use Rattle.wire.specs.declared.Refusal.{Refusal}
-use Rattle.wire.specs.Exactly.{Grammar}
-use Rattle.route_mirroring.specs.Grammar.{Tlv, bgpMessage, information, Reading, join, Good}
+use Rattle.route_mirroring.specs.Grammar.{Tlv, bgpMessage, information, Reading, sizeOf, places}
 use Rattle.route_mirroring.specs.declared.RouteMirroringInfo.{RouteMirroringInfo}
 use Rattle.route_mirroring.specs.declared.RouteMirroringInfo.the-variants.{ErroredPdu, MessageLost}
 use Rattle.route_mirroring.specs.declared.RouteMirroringValue.the-variants.{BgpMessage, Information}
@@ -28,17 +27,8 @@ codeOf MessageLost = 1
 abbrev pub zeroTlv : RouteMirroringTlv
 zeroTlv = record { «info_len» = 0; value = BgpMessage (view 0 0) }
 
--- the table has 32 entries
-abbrev pub places : ℕ
-places = 32
-
 unfoldable pub zeroTable : List RouteMirroringTlv
 zeroTable = replicate places zeroTlv
-
--- how many bytes a TLV takes: information always 6
-abbrev pub sizeOf : Tlv → ℕ
-sizeOf (bgpMessage size value) = 4 + size
-sizeOf (information size code) = 6
 
 -- a TLV as the table shows it, where it starts at a place
 abbrev pub entry : ℕ → Tlv → RouteMirroringTlv
@@ -51,16 +41,8 @@ goodAnswer count end table = record { refusal = noRefusal; stop = end; message =
 abbrev pub refusedAnswer : Refusal → RouteMirroringAnswer
 refusedAnswer r = record { refusal = r; stop = 0; message = record { tlvs = zeroTable; count = 0 } }
 
--- a reading fits the table
-abbrev pub Fits : Reading → Type 0
-Fits r = length (r .tlvs) ≤ places
-
 -- the good answer: the TLVs in order, entries past the count zero, the stop where the last TLV ends and the tail starts
 abbrev pub shown : Reading → RouteMirroringAnswer
 shown r =
     goodAnswer (length (r .tlvs)) (endFrom sizeOf 0 (r .tlvs))
     (shownFrom sizeOf entry 0 (r .tlvs) ++ replicate (places - length (r .tlvs)) zeroTlv)
-
--- the grammar, with what fits the table
-abbrev pub grammar : Grammar
-grammar = record { Reading = Reading; join = join; Good = Good; Fits = Fits }

@@ -9,7 +9,7 @@ ghost use lib.ListN.{drop};
 ghost use Rattle.wire.specs.Bytes.{numAt};
 ghost use Rattle.wire.specs.Refusal.{refusal};
 ghost use Rattle.route_mirroring.specs.Shown.{infoOf, zeroTlv, refusedAnswer};
-ghost use Rattle.route_mirroring.specs.Read.{messageStep, informationStep, told, stepAt, readMirroring};
+ghost use Rattle.route_mirroring.specs.Read.{messageStep, informationStep, asStep, stepAt, readMirroring};
 
 pub enum RouteMirroringInfo {
     ErroredPdu,
@@ -108,7 +108,7 @@ fn step_at(s: &[u8], at: usize) -> Step
 // A BGP message behind type and length: that it has a BGP header is judged before how much is left.
 fn message_at(s: &[u8], at: usize, size: u16, value: Cursor) -> Step
     requires { ⌜ (size ≡ numAt 2 (drop at (now s)) 2) × (value .at ≡ at + 4) ⌝ }
-    ensures { λ r. ⌜ r ≡ told at (messageStep (drop at (now (s .entry)))) ⌝ }
+    ensures { λ r. ⌜ r ≡ asStep at (messageStep (drop at (now (s .entry)))) ⌝ }
 {
     let place = value.at;
     let left = wire::left(s, place);
@@ -139,7 +139,7 @@ fn message_at(s: &[u8], at: usize, size: u16, value: Cursor) -> Step
 // Information behind type and length: two bytes, whatever the length says.
 fn information_at(s: &[u8], at: usize, size: u16, value: Cursor) -> Step
     requires { ⌜ (size ≡ numAt 2 (drop at (now s)) 2) × (value .at ≡ at + 4) ⌝ }
-    ensures { λ r. ⌜ r ≡ told at (informationStep (drop at (now (s .entry)))) ⌝ }
+    ensures { λ r. ⌜ r ≡ asStep at (informationStep (drop at (now (s .entry)))) ⌝ }
 {
     let place = value.at;
     let ReadU16::Good(code, after_code) = value.read_u16(s) else {

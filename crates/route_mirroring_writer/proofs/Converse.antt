@@ -15,8 +15,8 @@ use Rattle.writing.proofs.Table.{kept-each}
 use Rattle.writing.proofs.Trip.{table-back}
 use Rattle.tlv_table.proofs.Written.{good-fits}
 use Rattle.tlv_table.proofs.Translated.{no-tail-translated}
-use Rattle.route_mirroring.specs.Grammar.{Tlv, bgpMessage, information, put, Reading, join, ReadTlv}
-use Rattle.route_mirroring.specs.Shown.{zeroTlv, places, sizeOf, entry}
+use Rattle.route_mirroring.specs.Grammar.{Tlv, bgpMessage, information, put, Reading, join, ReadTlv, places, sizeOf}
+use Rattle.route_mirroring.specs.Shown.{zeroTlv, entry}
 use Rattle.route_mirroring_writer.specs.Write.{valuePart, writer, kept, bytesOf, writable, entryOf, SameTlv, Same}
 use Rattle.route_mirroring.specs.declared.RouteMirroringValue.{RouteMirroringValue}
 use Rattle.route_mirroring.specs.declared.RouteMirroringValue.the-variants.{BgpMessage, Information}

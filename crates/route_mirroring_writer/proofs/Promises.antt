@@ -13,7 +13,8 @@ use Rattle.writing.specs.declared.WriteAnswer.the-variants.{Written}
 use Rattle.writing.proofs.Answers.{front, wrote-determined}
 use Rattle.writing.proofs.Table.{length-parts, kept-of}
 use Rattle.tlv_table.proofs.Translated.{bytes-translated}
-use Rattle.route_mirroring.specs.Shown.{zeroTlv, places}
+use Rattle.route_mirroring.specs.Grammar.{places}
+use Rattle.route_mirroring.specs.Shown.{zeroTlv}
 use Rattle.route_mirroring_writer.specs.Write.{writer, kept, readingOf, bytesOf, writable, entryOf}
 use Rattle.route_mirroring.specs.declared.RouteMirroring.{RouteMirroring}
 use Rattle.route_mirroring_writer.proofs.Written.{translates}

@@ -14,8 +14,8 @@ use Rattle.writing.proofs.Tlv.{tlv-good}
 use Rattle.writing.proofs.Table.{all-good, length-parts, Kept}
 use Rattle.writing.proofs.Trip.{table-same, end-sizes}
 use Rattle.tlv_table.proofs.Translated.{length-translated}
-use Rattle.route_mirroring.specs.Grammar.{ReadTlv, Good}
-use Rattle.route_mirroring.specs.Shown.{codeOf, zeroTlv, places, sizeOf, entry, shown}
+use Rattle.route_mirroring.specs.Grammar.{ReadTlv, Good, places, sizeOf}
+use Rattle.route_mirroring.specs.Shown.{codeOf, zeroTlv, entry, shown}
 use Rattle.route_mirroring.specs.Read.{readMirroring}
 use Rattle.route_mirroring_writer.specs.Write.{valuePart, writer, kept, readingOf, bytesOf, entryOf, SameTlv, Same}
 use Rattle.route_mirroring.specs.declared.RouteMirroringInfo.{RouteMirroringInfo}

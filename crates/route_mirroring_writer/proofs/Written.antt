@@ -17,8 +17,7 @@ use Rattle.writing.specs.Write.{tlvFits}
 use Rattle.writing.proofs.Tlv.{TlvFits, fits-of, fits-from}
 use Rattle.tlv_table.specs.Tlvs.{partOf, entryWritable}
 use Rattle.tlv_table.proofs.Translated.{Translates}
-use Rattle.route_mirroring.specs.Grammar.{put}
-use Rattle.route_mirroring.specs.Shown.{places}
+use Rattle.route_mirroring.specs.Grammar.{put, places}
 use Rattle.route_mirroring_writer.specs.Write.{valuePart, valueWritable, tlvWritable, writer, valueEntry, entryOf}
 use Rattle.route_mirroring.specs.declared.RouteMirroringValue.{RouteMirroringValue}
 use Rattle.route_mirroring.specs.declared.RouteMirroringValue.the-variants.{BgpMessage, Information}

@@ -12,8 +12,8 @@ use Rattle.writing.specs.Table.{Writer, parts, allOk}
 use Rattle.tlv_table.specs.declared.TlvValue.the-variants.{Part, Number}
 use Rattle.tlv_table.specs.declared.TlvEntry.{TlvEntry}
 use Rattle.tlv_table.specs.declared.TlvTable.{TlvTable}
-use Rattle.route_mirroring.specs.Grammar.{Tlv, bgpMessage, information, put, Reading, join}
-use Rattle.route_mirroring.specs.Shown.{codeOf, zeroTlv, places}
+use Rattle.route_mirroring.specs.Grammar.{Tlv, bgpMessage, information, put, Reading, join, places}
+use Rattle.route_mirroring.specs.Shown.{codeOf, zeroTlv}
 use Rattle.route_mirroring.specs.declared.RouteMirroringValue.{RouteMirroringValue}
 use Rattle.route_mirroring.specs.declared.RouteMirroringValue.the-variants.{BgpMessage, Information}
 use Rattle.route_mirroring.specs.declared.RouteMirroringTlv.{RouteMirroringTlv}

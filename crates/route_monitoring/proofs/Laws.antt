@@ -17,7 +17,8 @@ use Rattle.models.specs.declared.AsnLength.{AsnLength}
 use Rattle.peer_type.specs.declared.BmpPeerType.{BmpPeerType}
 use Rattle.route_monitoring.specs.Grammar.{Reading, join, Good}
 use Rattle.route_monitoring.specs.Shown.{goodOf, refusalOf}
-use Rattle.route_monitoring.specs.Read.{partsOf, readRouteMonitoring}
+use Rattle.route_monitoring.specs.Told.{partsOf}
+use Rattle.route_monitoring.specs.Read.{readRouteMonitoring}
 use Rattle.route_monitoring.specs.declared.RouteMonitoringAnswer.{RouteMonitoringAnswer}
 
 -- ---- joined, then taken apart

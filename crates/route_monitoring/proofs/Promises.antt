@@ -1,21 +1,28 @@
 -- What a user of the Route Monitoring body relies on. It has no table, so every good reading fits. Assumes nothing.
-use mathlib.Core.Path.{_≡_, sym, ap, _∙_}
-use mathlib.Core.List.{List}
+use mathlib.Core.Bool.{Bool, true, false}
+use mathlib.Core.Path.{_≡_, refl, sym, ap, _∙_}
+use mathlib.Core.List.{List, []}
 use Prim.Native.Nat.{ℕ, _+_}
 use native.Mathlib.Omega.{arith}
-use lib.ListN.{length, length-drop}
-use lib.Seq.{take-length}
+use lib.ListN.{length, drop, length-drop}
+use lib.Seq.{take-length, drop-length}
+use Rattle.wire.specs.Bytes.{pick}
 use Rattle.wire.specs.View.{view, viewed}
 use Rattle.wire.proofs.Views.{viewed-inside}
 use Rattle.wire.proofs.Determined.{determined}
-use Rattle.wire.specs.Exactly.{Sound, Complete, Unique}
+use Rattle.wire.specs.Refuses.{Refuses}
+use Rattle.wire.specs.Exactly.{Sound, Complete, Told, Unique}
+use Rattle.models.specs.Warnings.{countOnes}
 use Rattle.models.specs.declared.AsnLength.{AsnLength}
 use Rattle.peer_type.specs.declared.BmpPeerType.{BmpPeerType}
-use Rattle.route_monitoring.specs.Grammar.{Reading, join, Good}
-use Rattle.route_monitoring.specs.Shown.{goodOf, shown, messageOf, grammar}
-use Rattle.route_monitoring.specs.Read.{partsOf, readRouteMonitoring, reader}
+use Rattle.route_monitoring.specs.Grammar.{Reading, join, Good, grammar}
+use Rattle.route_monitoring.specs.Warnings.{shortAs, warningsOf}
+use Rattle.route_monitoring.specs.Shown.{goodOf, shown, messageOf}
+use Rattle.route_monitoring.specs.Told.{partsOf}
+use Rattle.route_monitoring.specs.Read.{readRouteMonitoring, reader}
 use Rattle.route_monitoring.specs.declared.RouteMonitoringAnswer.{RouteMonitoringAnswer}
 use Rattle.route_monitoring.proofs.Laws.{length-join, parts-join, join-parts, parts-good, accepted, shows-all}
+use Rattle.route_monitoring.proofs.Refusals as Refusals
 
 -- a view of all that there is shows it
 pub viewed-all : (s : List ℕ) → viewed s (view 0 (length s)) ≡ s
@@ -41,6 +48,10 @@ module _ (width : AsnLength) (t : BmpPeerType) where
       let n = length-join r g in
       shows-all (join r) width t (record { short = short; long = omega arith }) ∙ ap (goodOf width t) n
 
+-- A refusal shows nothing but itself, and has one of the reader's numbers; each of these is given for some input.
+pub refuses : (width : AsnLength) (t : BmpPeerType) → Refuses (reader width t)
+refuses = Refusals.refuses
+
 -- No input has two readings.
 pub unique : Unique grammar
 unique r q g h e = sym (parts-join r g) ∙ ap partsOf e ∙ parts-join q h
@@ -48,6 +59,20 @@ unique r q g h e = sym (parts-join r g) ∙ ap partsOf e ∙ parts-join q h
 -- The view in the answer that shows a reading shows all of that reading.
 pub views : (width : AsnLength) (t : BmpPeerType) (r : Reading) → Good r → viewed (join r) (messageOf (shown width t r) .«bgp_message») ≡ join r
 views width t r g = ap (λ (n : ℕ). viewed (join r) (view 0 n)) (sym (length-join r g)) ∙ viewed-all (join r)
+
+-- Every good reading is told by the answer that shows it.
+pub told-back : (width : AsnLength) (t : BmpPeerType) → Told (reader width t)
+told-back width t r g f =
+    let end : drop (19 + length (r .rest)) (join r) ≡ [] = ap (λ (n : ℕ). drop n (join r)) (sym (length-join r g)) ∙ drop-length (join r) in
+    record { told-so = ap partsOf (views width t r g) ∙ parts-join r g; tail-so = end; tail-within = omega (arith, length-join r g) }
+
+-- The ones of the word are as many as the warnings that are given.
+pub warnings-counted : (width : AsnLength) (t : BmpPeerType) → countOnes 32 (warningsOf width t) ≡ pick (shortAs width t) 1 0
+warnings-counted width t = go (shortAs width t)
+  where
+    go : (a : Bool) → countOnes 32 (pick a 4 0) ≡ pick a 1 0
+    go true = refl
+    go false = refl
 
 -- ---- any two answers that the contracts allow are equal
 pub parse-determined : (s : List ℕ) (width : AsnLength) (t : BmpPeerType) (a b : RouteMonitoringAnswer)

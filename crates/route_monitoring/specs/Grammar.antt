@@ -7,8 +7,9 @@
 --
 -- A BGP message stays bytes, so nothing of it but its header is asked for. There is no tail.
 use Prim.Native.Nat.{ℕ, _^_, _<_}
-use mathlib.Core.List.{List, _++_}
+use mathlib.Core.List.{List, _++_, []}
 use Rattle.wire.specs.Bytes.{be, Bytes, Octets}
+use Rattle.wire.specs.Exactly.{Grammar, noTable, Nothing, skipsNothing}
 
 pub record Reading : Type 0 where
   pub marker : List ℕ
@@ -24,3 +25,16 @@ pub record Good (r : Reading) : Type 0 where
   pub size-fits : r .size < 256 ^ 2
   pub kind-fits : r .kind < 256 ^ 1
   pub rest-bytes : Bytes (r .rest)
+
+-- the grammar; there is no table
+abbrev pub grammar : Grammar
+grammar =
+    record {
+      Reading = Reading;
+      join = join;
+      Good = Good;
+      Fits = noTable;
+      Skipped = Nothing;
+      skipped = skipsNothing;
+      tail = λ r. [];
+    }

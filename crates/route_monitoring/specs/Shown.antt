@@ -4,10 +4,9 @@ use lib.ListN.{length}
 use Rattle.wire.specs.Refusal.{noRefusal}
 use Rattle.wire.specs.View.{view}
 use Rattle.wire.specs.declared.Refusal.{Refusal}
-use Rattle.wire.specs.Exactly.{Grammar, noTable}
 use Rattle.models.specs.declared.AsnLength.{AsnLength}
 use Rattle.peer_type.specs.declared.BmpPeerType.{BmpPeerType}
-use Rattle.route_monitoring.specs.Grammar.{Reading, join, Good}
+use Rattle.route_monitoring.specs.Grammar.{Reading}
 use Rattle.route_monitoring.specs.Warnings.{warningsOf}
 use Rattle.route_monitoring.specs.declared.RouteMonitoring.{RouteMonitoring}
 use Rattle.route_monitoring.specs.declared.RouteMonitoringAnswer.{RouteMonitoringAnswer}
@@ -39,7 +38,3 @@ zeroMessage = record { «bgp_message» = view 0 0 }
 abbrev pub messageOf : RouteMonitoringAnswer → RouteMonitoring
 messageOf (RouteMonitoringAnswer.Good m stop word) = m
 messageOf (RouteMonitoringAnswer.Refused r) = zeroMessage
-
--- the grammar; there is no table
-abbrev pub grammar : Grammar
-grammar = record { Reading = Reading; join = join; Good = Good; Fits = noTable }

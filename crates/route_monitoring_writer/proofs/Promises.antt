@@ -16,7 +16,8 @@ use Rattle.models.specs.declared.AsnLength.{AsnLength}
 use Rattle.peer_type.specs.declared.BmpPeerType.{BmpPeerType}
 use Rattle.route_monitoring.specs.Grammar.{join, Good}
 use Rattle.route_monitoring.specs.Shown.{refusalOf, stopOf, messageOf}
-use Rattle.route_monitoring.specs.Read.{partsOf, readRouteMonitoring}
+use Rattle.route_monitoring.specs.Told.{partsOf}
+use Rattle.route_monitoring.specs.Read.{readRouteMonitoring}
 use Rattle.route_monitoring_writer.specs.Write.{bytesOf, writable, Same}
 use Rattle.route_monitoring.specs.declared.RouteMonitoring.{RouteMonitoring}
 use Rattle.route_monitoring.specs.declared.RouteMonitoringAnswer.{RouteMonitoringAnswer}

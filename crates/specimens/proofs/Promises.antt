@@ -17,13 +17,13 @@ use Rattle.stats_type.specs.Shown as StatsType
 use Rattle.stats_data.specs.Read.{valueOf}
 use Rattle.stats_report.specs.Shown as Statistics
 use Rattle.stats_report.specs.Read as StatisticsRead
-use Rattle.specimens.specs.Told.{Told, told}
+use Rattle.specimens.specs.Listed.{Listed, listed}
 use Rattle.specimens.specs.List.{Specimen, specimens}
 
-abbrev answered : Specimen → Told
-answered x = told (x .reader) (x .bytes)
+abbrev answered : Specimen → Listed
+answered x = listed (x .reader) (x .bytes)
 
-abbrev expected : Specimen → Told
+abbrev expected : Specimen → Listed
 expected x = x .answer
 
 -- One theorem over the whole list.

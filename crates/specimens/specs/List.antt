@@ -2,19 +2,19 @@
 use Prim.Native.Nat.{ℕ}
 use mathlib.Core.List.{List, [], _∷_}
 use Rattle.wire.specs.Number as Number
-use Rattle.specimens.specs.Told.{Told, number, Reader, common, statistics, initiation, termination, peer-down, mirroring}
+use Rattle.specimens.specs.Listed.{Listed, number, Reader, common, statistics, initiation, termination, peer-down, mirroring}
 
 pub record Specimen : Type 0 where
   pub reader : Reader
   pub bytes : List ℕ
-  pub answer : Told
+  pub answer : Listed
 
 -- a good answer, by its stop, the tail's start and the fields
-abbrev pub good : ℕ → ℕ → List (List ℕ) → Told
+abbrev pub good : ℕ → ℕ → List (List ℕ) → Listed
 good stop tail fields = record { number = Number.Good; place = 0; stop = stop; tail = tail; fields = fields }
 
 -- a refusal, by its number and place, with the fields of an all-zero record
-abbrev pub refused : ℕ → ℕ → List (List ℕ) → Told
+abbrev pub refused : ℕ → ℕ → List (List ℕ) → Listed
 refused n p zero-fields = record { number = n; place = p; stop = 0; tail = 0; fields = zero-fields }
 
 abbrev pub zeroCommon : List (List ℕ)

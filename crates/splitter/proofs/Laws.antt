@@ -53,23 +53,6 @@ pub header-accepted : (there : ℕ) (a : CommonHeaderAnswer) → refusalOf (afte
 header-accepted there (CommonHeaderAnswer.Good h stop) e = refl
 header-accepted there (CommonHeaderAnswer.Refused r) e = e
 
--- the numbers of its refusals are the header's, and its own
-pub after-at-most : (there : ℕ) (a : CommonHeaderAnswer) → HeaderShown.refusalOf a .number ≤ Number.UnknownKind
-    → refusalOf (afterHeader there a) .number ≤ Number.BadMessageLength
-after-at-most there (CommonHeaderAnswer.Refused r) p = omega (arith, p)
-after-at-most there (CommonHeaderAnswer.Good h stop) p = go (ltb n 6) (ltb Number.limit n) (ltb there n)
-  where
-    n : ℕ
-    n = h .«msg_len»
-
-    go : (a b c : Bool) → refusalOf
-        (pick a (SplitAnswer.Refused (refusal Number.BadMessageLength 1)) (pick b (SplitAnswer.Refused (refusal Number.TooLong 1))
-        (pick c (SplitAnswer.Refused (cutAt 6)) (SplitAnswer.Message h (view 0 n))))) .number ≤ Number.BadMessageLength
-    go true b c = omega arith
-    go false true c = omega arith
-    go false false true = omega arith
-    go false false false = omega arith
-
 -- ---- what follows the header, cut into body and rest
 abbrev pub cut-at : Header.Reading → Reading
 cut-at h =

@@ -10,18 +10,21 @@ use Rattle.wire.specs.Bytes.{Bytes}
 use Rattle.wire.specs.View.{view, viewed}
 use Rattle.wire.proofs.Views.{viewed-inside}
 use Rattle.wire.proofs.Determined.{determined}
-use Rattle.wire.specs.Exactly.{Sound, Complete, Unique}
+use Rattle.wire.specs.Refuses.{Refuses}
+use Rattle.wire.specs.Exactly.{Sound, Complete, Told, Unique}
 use Rattle.common_header.specs.Grammar as Header
 use Rattle.common_header.specs.Shown as HeaderShown
 use Rattle.common_header.specs.Read.{readCommonHeader}
 use Rattle.common_header.specs.declared.CommonHeaderAnswer.{CommonHeaderAnswer}
 use Rattle.common_header.proofs.Laws.{length-join}
 use Rattle.common_header.proofs.Promises as HeaderPromises
-use Rattle.splitter.specs.Grammar.{headerOf, join, Good}
-use Rattle.splitter.specs.Shown.{shown, refusalOf, messageOf, commonHeaderOf, grammar}
+use Rattle.splitter.specs.Grammar.{headerOf, join, Good, grammar}
+use Rattle.splitter.specs.Shown.{shown, refusalOf, messageOf, commonHeaderOf}
 use Rattle.splitter.specs.Read.{afterHeader, splitOf, reader}
 use Rattle.splitter.specs.declared.SplitAnswer.{SplitAnswer}
-use Rattle.splitter.proofs.Laws.{Fitting, fitting-shown, judged-good, header-accepted, after-at-most, cut-at, header-cut, cut-header}
+use Rattle.splitter.proofs.Laws.{Fitting, fitting-shown, judged-good, header-accepted, cut-at, header-cut, cut-header}
+use Rattle.splitter.proofs.Told as ToldProofs
+use Rattle.splitter.proofs.Refusals as Refusals
 
 -- What the splitter accepts is a whole message and the rest of the stream, and it shows that message.
 pub sound : Sound reader
@@ -63,15 +66,19 @@ complete r g _ short =
     ap (afterHeader (length (join r))) (HeaderPromises.complete (headerOf r) (g .header-good) tt short)
     ∙ fitting-shown (length (join r)) (HeaderShown.headerOf (HeaderShown.shown (headerOf r))) f
 
+-- Every good reading is told by the answer that shows it.
+pub told-back : Told reader
+told-back = ToldProofs.told-back
+
+-- A refusal shows nothing but itself, and has one of the reader's numbers; each of these is given for some input.
+pub refuses : Refuses reader
+refuses = Refusals.refuses
+
 -- No stream has two first messages.
 pub unique : Unique grammar
 unique r q g h e =
     sym (cut-header r (g .length-is)) ∙ ap cut-at (HeaderPromises.unique (headerOf r) (headerOf q) (g .header-good) (h .header-good) e)
     ∙ cut-header q (h .length-is)
-
--- A refusal has one of the numbers 1 to 4, or 10.
-pub refused-at-most : (s : List ℕ) → refusalOf (splitOf s) .number ≤ Number.BadMessageLength
-refused-at-most s = after-at-most (length s) (readCommonHeader s) (HeaderPromises.refused-at-most s)
 
 -- Where the splitter is good, the message that it hands out is the first bytes of the stream, as many as the header's length says.
 pub first-bytes : (s : List ℕ) → Bytes s → refusalOf (splitOf s) .number ≡ Number.Good

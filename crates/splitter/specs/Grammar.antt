@@ -8,6 +8,7 @@ use mathlib.Core.Path.{_≡_}
 use mathlib.Core.List.{List, _++_}
 use lib.ListN.{length}
 use Rattle.wire.specs.Number as Number
+use Rattle.wire.specs.Exactly.{Grammar, noTable, Nothing, skipsNothing}
 use Rattle.common_header.specs.Grammar as Header
 
 pub record Reading : Type 0 where
@@ -28,3 +29,16 @@ pub record Good (r : Reading) : Type 0 where
   pub header-good : Header.Good (headerOf r)
   pub length-is : r .length ≡ 6 + length (r .body)
   pub short-enough : r .length ≤ Number.limit
+
+-- the grammar; there is no table
+abbrev pub grammar : Grammar
+grammar =
+    record {
+      Reading = Reading;
+      join = join;
+      Good = Good;
+      Fits = noTable;
+      Skipped = Nothing;
+      skipped = skipsNothing;
+      tail = λ r. r .rest;
+    }

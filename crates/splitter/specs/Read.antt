@@ -1,6 +1,6 @@
 -- What the splitter answers, for every input.
 use Prim.Native.Nat.{ℕ}
-use mathlib.Core.List.{List}
+use mathlib.Core.List.{List, [], _∷_}
 use lib.ListN.{length}
 use lib.Dec.{ltb}
 use Rattle.wire.specs.Number as Number
@@ -8,7 +8,9 @@ use Rattle.wire.specs.Bytes.{pick}
 use Rattle.wire.specs.Refusal.{refusal, cutAt}
 use Rattle.wire.specs.View.{view}
 use Rattle.wire.specs.Exactly.{Reader}
-use Rattle.splitter.specs.Shown.{grammar, shown, refusalOf}
+use Rattle.splitter.specs.Told as Told
+use Rattle.splitter.specs.Grammar.{grammar}
+use Rattle.splitter.specs.Shown.{shown, refusalOf, stopOf}
 use Rattle.common_header.specs.Read.{readCommonHeader}
 use Rattle.common_header.specs.declared.BmpCommonHeader.{BmpCommonHeader}
 use Rattle.common_header.specs.declared.CommonHeaderAnswer.{CommonHeaderAnswer}
@@ -29,6 +31,21 @@ afterHeader there (CommonHeaderAnswer.Refused r) = SplitAnswer.Refused r
 abbrev pub splitOf : List ℕ → SplitAnswer
 splitOf s = afterHeader (length s) (readCommonHeader s)
 
+-- the numbers that it refuses with
+abbrev pub numbers : List ℕ
+numbers = Number.TooLong ∷ Number.Cut ∷ Number.BadVersion ∷ Number.UnknownKind ∷ Number.BadMessageLength ∷ []
+
 -- the reader, and the grammar that it is held against
 abbrev pub reader : Reader
-reader = record { grammar = grammar; Answer = SplitAnswer; read = splitOf; numberOf = λ a. refusalOf a .number; shown = shown }
+reader =
+    record {
+      grammar = grammar;
+      Answer = SplitAnswer;
+      read = splitOf;
+      shown = shown;
+      tailAt = stopOf;
+      told = Told.told;
+      refused = SplitAnswer.Refused;
+      refusalOf = refusalOf;
+      numbers = numbers;
+    }

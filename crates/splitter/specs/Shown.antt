@@ -4,10 +4,9 @@ use Rattle.wire.specs.Refusal.{noRefusal}
 use Rattle.wire.specs.View.{view}
 use Rattle.wire.specs.declared.Refusal.{Refusal}
 use Rattle.wire.specs.declared.View.{View}
-use Rattle.wire.specs.Exactly.{Grammar, noTable}
 use Rattle.common_header.specs.Shown as Header
 use Rattle.common_header.specs.declared.BmpCommonHeader.{BmpCommonHeader}
-use Rattle.splitter.specs.Grammar.{Reading, headerOf, join, Good}
+use Rattle.splitter.specs.Grammar.{Reading, headerOf}
 use Rattle.splitter.specs.declared.SplitAnswer.{SplitAnswer}
 
 -- the good answer: the common header's record, and the message as the first bytes of the stream
@@ -29,7 +28,3 @@ stopOf a = messageOf a .place + messageOf a .length
 abbrev pub commonHeaderOf : SplitAnswer → BmpCommonHeader
 commonHeaderOf (SplitAnswer.Message h v) = h
 commonHeaderOf (SplitAnswer.Refused r) = Header.zeroHeader
-
--- the grammar; there is no table
-abbrev pub grammar : Grammar
-grammar = record { Reading = Reading; join = join; Good = Good; Fits = noTable }

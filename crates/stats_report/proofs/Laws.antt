@@ -17,8 +17,8 @@ use Rattle.cursor.proofs.Reading.{Was}
 use Rattle.wire.proofs.Tlv.{tlv-length, tlv-there, tlv-join, tlv-rest, tlv-parts}
 use Rattle.wire.proofs.Walk.{Takes, Faults, Never, Laws, resume-bad, resume-full, resume-room}
 use Rattle.stats_data.proofs.Values.{value-back, value-forth}
-use Rattle.stats_report.specs.Grammar.{Stat, asTlv, putStat, GoodStat}
-use Rattle.stats_report.specs.Shown.{places, sizeOf, refusedAnswer}
+use Rattle.stats_report.specs.Grammar.{Stat, asTlv, putStat, GoodStat, places, sizeOf}
+use Rattle.stats_report.specs.Shown.{refusedAnswer}
 use Rattle.stats_report.specs.Read.{asStat, stepAt, kit, answer, readStats}
 use Rattle.stats_report.specs.declared.StatCounter.{StatCounter}
 use Rattle.stats_report.specs.declared.Step.the-variants.{Bad, Whole}

@@ -1,4 +1,8 @@
 pub mod Steps
 pub mod Laws
 pub mod Shows
+pub mod Told
+pub mod Refusals
+pub mod Cuts
 pub mod Promises
+pub mod Rfc

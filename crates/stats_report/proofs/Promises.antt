@@ -2,39 +2,47 @@
 use mathlib.Core.Path.{_≡_, refl, sym, ap, _∙_}
 use mathlib.Core.Bool.{Bool, true, false}
 use mathlib.Core.List.{List}
-use Prim.Native.Nat.{ℕ, _-_}
+use mathlib.Core.Logic.{_⊎_}
+use Prim.Native.Nat.{ℕ, _-_, _≤_, _<_}
 use native.Mathlib.Omega.{arith}
 use borrow.Author.Tests.{ltb-false, leb-true}
 use lib.Dec.{ltb}
-use lib.ListN.{length}
+use lib.ListN.{length, take}
 use Rattle.wire.specs.Number as Number
-use Rattle.wire.specs.Bytes.{be, has, numAt}
-use Rattle.wire.specs.Parts.{AllAt}
+use Rattle.wire.specs.Bytes.{be, has, numAt, Bytes}
+use Rattle.wire.specs.Parts.{AllAt, endFrom}
 use Rattle.wire.specs.Walk.{Out, good, refused, readFrom}
 use Rattle.wire.proofs.Bytes.{num-lt, num-back}
 use Rattle.wire.proofs.Determined.{determined}
 use Rattle.wire.proofs.Walk.{read-fault, counted-sound, counted-complete, counted-unique, each-at}
-use Rattle.wire.specs.Exactly.{Shows, Sound, Complete, Unique}
-use Rattle.stats_report.specs.Grammar.{Reading, join, Good}
-use Rattle.stats_report.specs.Shown.{sizeOf, grammar}
-use Rattle.stats_report.specs.Read.{kit, readStats, reader}
+use Rattle.wire.specs.Refuses.{Refuses}
+use Rattle.wire.specs.Exactly.{Shows, Sound, Complete, Told, Unique}
+use Rattle.wire.specs.Refusal.{refusal}
+use Rattle.wire.specs.Lacking.{CutAfter}
+use Rattle.stats_report.specs.Grammar.{Reading, join, Good, sizeOf, grammar, places, putStat, GoodStat}
+use Rattle.stats_report.specs.Read.{kit, readStats, reader, widthsIn}
 use Rattle.stats_report.specs.declared.StatCounter.{StatCounter}
 use Rattle.stats_report.specs.declared.StatsAnswer.{StatsAnswer}
+use Rattle.stats_report.specs.Shown.{refusedAnswer}
 use Rattle.stats_report.proofs.Laws.{faults, never, laws, behind}
 use Rattle.stats_report.proofs.Shows.{shows-of, count-of, ViewAt, view-at}
+use Rattle.stats_report.proofs.Told as ToldProofs
+use Rattle.stats_report.proofs.Refusals as Refusals
+use Rattle.stats_report.proofs.Cuts as Cuts
 
 -- What the reader accepts has a good reading that fits, and it shows that reading.
 pub sound : Sound reader
-sound s p e = go (ltb Number.limit (length s)) refl (has 4 s 0) refl (readFrom kit (numAt 4 s 0) 4 s) refl
+sound s p e = go (ltb Number.limit (length s)) refl (has 4 s 0) refl (readFrom kit (numAt 4 s 0) 4 s) refl e
   where
-    go : (b : Bool) → ltb Number.limit (length s) ≡ b → (d : Bool) → has 4 s 0 ≡ d → (o : Out StatCounter) → readFrom kit (numAt 4 s 0) 4 s ≡ o → (r : Reading) × Shows reader s r
-    go true h d j o k = let q : _≡_ {A = ℕ} 1 0 = (rw h at e) in absurd (omega arith)
-    go false h false j o k = let q : _≡_ {A = ℕ} 2 0 = (rw (h, j) at e) in absurd (omega arith)
-    go false h true j (refused r) k =
+    go : (b : Bool) → ltb Number.limit (length s) ≡ b → (d : Bool) → has 4 s 0 ≡ d → (o : Out StatCounter) → readFrom kit (numAt 4 s 0) 4 s ≡ o
+        → readStats s .refusal .number ≡ Number.Good → (r : Reading) × Shows reader s r
+    go true h d j o k e = let q : _≡_ {A = ℕ} 1 0 = (rw h at e) in absurd (omega arith)
+    go false h false j o k e = let q : _≡_ {A = ℕ} 2 0 = (rw (h, j) at e) in absurd (omega arith)
+    go false h true j (refused r) k e =
         let f = read-fault kit faults (numAt 4 s 0) 4 s r k in
         let x : r .number ≡ 0 = (rw (h, j, k) at e) in
         absurd (omega arith)
-    go false h true j (good n at table z) k =
+    go false h true j (good n at table z) k e =
         let long = leb-true 4 (length s - 0) j in
         let a = counted-sound kit laws never (numAt 4 s 0) 4 s p n at table z k in
         let c = a .1 in (
@@ -57,6 +65,19 @@ complete r g f short =
     shows-of (join r) short (r .count) (r .stats) (r .tail) (count-of r g)
     (counted-complete kit laws (r .count) 4 (join r) (r .stats) (r .tail) (g .each) (sym (g .count-is)) (g .tail-bytes) refl f)
 
+-- Every good reading that fits is told by the answer that shows it, and the tail.
+pub told-back : Told reader
+told-back = ToldProofs.told-back
+
+-- A refusal shows nothing but itself, and has one of the reader's numbers; each of these is given for some input.
+pub refuses : Refuses reader
+refuses = Refusals.refuses
+
+-- A good reading of more records than the table holds is refused with TooMany, at the first that has no room.
+pub too-many : (r : Reading) → Good r → length (join r) ≤ Number.limit → places < length (r .stats)
+    → readStats (join r) ≡ refusedAnswer (refusal Number.TooMany (endFrom sizeOf 4 (take places (r .stats))))
+too-many = Refusals.too-many
+
 -- No input has two readings, whatever the table holds.
 pub unique : Unique grammar
 unique r q g h e =
@@ -69,6 +90,11 @@ unique r q g h e =
 pub views : (r : Reading) → Good r → AllAt sizeOf (ViewAt (join r)) 4 (r .stats)
 unfolding be
 views r g = each-at kit laws (ViewAt (join r)) (join r) (view-at (join r)) (r .stats) (r .tail) 4 (g .each) refl
+
+-- A Cut is at the first part that is not whole: the count, or a part of a record behind records that are.
+pub refuses-cut : (s : List ℕ) → Bytes s → readStats s .refusal .number ≡ Number.Cut
+    → ((length s < 4) × (readStats s .refusal .place ≡ 0)) ⊎ CutAfter putStat GoodStat sizeOf widthsIn 4 s (readStats s .refusal .place)
+refuses-cut = Cuts.refuses-cut
 
 -- ---- any two answers that the contracts allow are equal
 pub parse-determined : (s : List ℕ) (a b : StatsAnswer) → a ≡ readStats s → b ≡ readStats s → a ≡ b

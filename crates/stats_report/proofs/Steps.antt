@@ -17,14 +17,14 @@ use Rattle.wire.specs.Walk.{stop, bad, item, from}
 use Rattle.wire.specs.declared.Refusal.{Refusal}
 use Rattle.cursor.specs.declared.Cursor.{Cursor}
 use Rattle.stats_type.specs.Shown.{typeOf}
-use Rattle.stats_report.specs.Grammar.{Stat}
-use Rattle.stats_report.specs.Shown.{sizeOf, entry}
+use Rattle.stats_report.specs.Grammar.{Stat, sizeOf}
+use Rattle.stats_report.specs.Shown.{entry}
 use Rattle.stats_data.specs.Shown.{dataAt}
 use Rattle.stats_data.specs.Read.{valueOf, readData}
 use Rattle.stats_data.specs.declared.StatsData.{StatsData}
 use Rattle.stats_data.specs.declared.ReadData.{ReadData}
 use Rattle.stats_data.proofs.Values.{was-data}
-use Rattle.stats_report.specs.Read.{asStat, step, told, stepAt}
+use Rattle.stats_report.specs.Read.{asStat, step, asStep, stepAt}
 use Rattle.stats_report.specs.declared.StatCounter.{StatCounter}
 use Rattle.stats_report.specs.declared.Step.the-variants.{Bad, Whole}
 
@@ -96,23 +96,23 @@ module _ (s : List ℕ) (at : ℕ) where
         let there : drop 4 x ≡ drop place s = drop-drop 4 at s ∙ ap (λ (j : ℕ). drop j s) (sym place-is) in
         let data-is : dataAt (at + 4) (numAt 2 x 2) (valueOf (numAt 2 x 2) (take (numAt 2 x 2) (drop 4 x))) ≡ d = rw (size-is, there, ← place-is) (sym (w .data-is)) in
         let end-is : at + (4 + numAt 2 x 2) ≡ c .at = omega (arith, w .next) in
-        ap (told at) (of x (whole (simp length-drop long) (rw (length-drop, size-is) (omega (arith, w .left)))))
+        ap (asStep at) (of x (whole (simp length-drop long) (rw (length-drop, size-is) (omega (arith, w .left)))))
         ∙ (λ i. Whole (record { «stat_type» = typeOf (kind-is i); «stat_len» = size-is i; «stat_data» = data-is i }) (record { at = end-is i }))
 
 -- ---- and the other way
-pub was-bad : (at : ℕ) (r : Refusal) (s : List ℕ) → told at (step s) ≡ Bad r → (q : Refusal) × (step s ≡ bad q) × (from at q ≡ r)
+pub was-bad : (at : ℕ) (r : Refusal) (s : List ℕ) → asStep at (step s) ≡ Bad r → (q : Refusal) × (step s ≡ bad q) × (from at q ≡ r)
 was-bad at r s e = go (step s) refl e
   where
-    go : (x : Walk.Step Stat) → step s ≡ x → told at x ≡ Bad r → (q : Refusal) × (step s ≡ bad q) × (from at q ≡ r)
+    go : (x : Walk.Step Stat) → step s ≡ x → asStep at x ≡ Bad r → (q : Refusal) × (step s ≡ bad q) × (from at q ≡ r)
     go stop h p = absurd (no-stop s (see s) h)
     go (bad q) h p = (q, h, cc)
     go (item t) h p = (r, cc, cc)
 
-pub was-whole : (at : ℕ) (u : StatCounter) (c : Cursor) (s : List ℕ) → told at (step s) ≡ Whole u c
+pub was-whole : (at : ℕ) (u : StatCounter) (c : Cursor) (s : List ℕ) → asStep at (step s) ≡ Whole u c
     → (t : Stat) × (step s ≡ item t) × (entry at t ≡ u) × (at + sizeOf t ≡ c .at)
 was-whole at u c s e = go (step s) refl e
   where
-    go : (x : Walk.Step Stat) → step s ≡ x → told at x ≡ Whole u c → (t : Stat) × (step s ≡ item t) × (entry at t ≡ u) × (at + sizeOf t ≡ c .at)
+    go : (x : Walk.Step Stat) → step s ≡ x → asStep at x ≡ Whole u c → (t : Stat) × (step s ≡ item t) × (entry at t ≡ u) × (at + sizeOf t ≡ c .at)
     go stop h p = absurd (no-stop s (see s) h)
     go (bad q) h p = (asStat (tlvOf s), cc, cc, cc)
     go (item t) h p = (t, h, cc, cc)

@@ -9,13 +9,14 @@
 --                          length 11: AFI 2 bytes, SAFI 1 byte, a gauge of 8 bytes
 --                          any other length: that many bytes, as they are
 --     tail                 any bytes
-use Prim.Native.Nat.{ℕ, _^_, _<_}
+use Prim.Native.Nat.{ℕ, _^_, _<_, _≤_, _+_}
 use mathlib.Core.Path.{_≡_}
 use mathlib.Core.List.{List, _++_}
 use lib.ListN.{length}
 use Rattle.wire.specs.Bytes.{be, Bytes}
 use Rattle.wire.specs.Parts.{joinAll, EachGood}
 use Rattle.wire.specs.Tlv.{Tlv, putTlv, GoodTlv}
+use Rattle.wire.specs.Exactly.{Grammar, Nothing, skipsNothing}
 use Rattle.stats_data.specs.Grammar.{Value, valueBytes, GoodValue}
 
 pub record Stat : Type 0 where
@@ -48,3 +49,28 @@ pub record Good (r : Reading) : Type 0 where
   pub count-is : r .count ≡ length (r .stats)
   pub each : EachGood putStat GoodStat (r .stats) (r .tail)
   pub tail-bytes : Bytes (r .tail)
+
+-- how many bytes a record takes
+abbrev pub sizeOf : Stat → ℕ
+sizeOf t = 4 + t .size
+
+-- the table has 64 entries
+abbrev pub places : ℕ
+places = 64
+
+-- a reading fits the table
+abbrev pub Fits : Reading → Type 0
+Fits r = length (r .stats) ≤ places
+
+-- the grammar, with what fits the table
+abbrev pub grammar : Grammar
+grammar =
+    record {
+      Reading = Reading;
+      join = join;
+      Good = Good;
+      Fits = Fits;
+      Skipped = Nothing;
+      skipped = skipsNothing;
+      tail = λ r. r .tail;
+    }

@@ -1,6 +1,6 @@
 -- What the reader answers, for every input.
 use Prim.Native.Nat.{ℕ, _+_, _-_}
-use mathlib.Core.List.{List}
+use mathlib.Core.List.{List, [], _∷_}
 use lib.ListN.{length, drop}
 use lib.Dec.{ltb}
 use Rattle.wire.specs.Number as Number
@@ -8,13 +8,14 @@ use Rattle.wire.specs.Bytes.{pick, has, numAt}
 use Rattle.wire.specs.Refusal.{refusal, noRefusal, cutAt}
 use Rattle.cursor.specs.Read.{cursor}
 use Rattle.wire.specs.Tlv.{Tlv}
-use Rattle.wire.specs.TlvAt.{tlvOf}
+use Rattle.wire.specs.TlvAt.{tlvOf, tlvWidths}
 use Rattle.wire.specs.Walk as Walk
 use Rattle.wire.specs.Walk.{stop, bad, item, Kit, Out, good, refused, from, readFrom}
 use Rattle.wire.specs.Exactly.{Reader}
 use Rattle.stats_data.specs.Read.{valueOf}
-use Rattle.stats_report.specs.Grammar.{Stat}
-use Rattle.stats_report.specs.Shown.{places, sizeOf, entry, zeroCounter, goodAnswer, refusedAnswer, grammar, shown}
+use Rattle.stats_report.specs.Grammar.{Stat, places, sizeOf, grammar}
+use Rattle.stats_report.specs.Told as Told
+use Rattle.stats_report.specs.Shown.{entry, zeroCounter, goodAnswer, refusedAnswer, shown}
 use Rattle.stats_report.specs.declared.StatCounter.{StatCounter}
 use Rattle.stats_report.specs.declared.StatsAnswer.{StatsAnswer}
 use Rattle.stats_report.specs.declared.Step.{Step}
@@ -31,17 +32,21 @@ step s =
     (pick (ltb (length s - 4) (numAt 2 s 2)) (bad (cutAt 4))
     (item (asStat (tlvOf s)))))
 
+-- the widths of the parts of the record at the front
+abbrev pub widthsIn : List ℕ → List ℕ
+widthsIn s = tlvWidths (numAt 2 s 2)
+
 abbrev pub kit : Kit
 kit = record { Item = Stat; Entry = StatCounter; step = step; size = sizeOf; entry = entry; none = zeroCounter; limit = places }
 
 -- one step at a place, as the code answers it: the fault, or the entry and the cursor past it; the step never stops by itself
-abbrev pub told : ℕ → Walk.Step Stat → Step
-told at stop = Bad noRefusal
-told at (bad r) = Bad (from at r)
-told at (item t) = Whole (entry at t) (cursor (at + sizeOf t))
+abbrev pub asStep : ℕ → Walk.Step Stat → Step
+asStep at stop = Bad noRefusal
+asStep at (bad r) = Bad (from at r)
+asStep at (item t) = Whole (entry at t) (cursor (at + sizeOf t))
 
 abbrev pub stepAt : List ℕ → ℕ → Step
-stepAt s at = told at (step (drop at s))
+stepAt s at = asStep at (step (drop at s))
 
 abbrev pub answer : ℕ → Out StatCounter → StatsAnswer
 answer total (good n at table z) = goodAnswer total n at table
@@ -53,6 +58,21 @@ readStats s =
     pick (ltb Number.limit (length s)) (refusedAnswer (refusal Number.TooLong 0))
     (pick (has 4 s 0) (answer (numAt 4 s 0) (readFrom kit (numAt 4 s 0) 4 s)) (refusedAnswer (cutAt 0)))
 
+-- the numbers that it refuses with
+abbrev pub numbers : List ℕ
+numbers = Number.TooLong ∷ Number.Cut ∷ Number.TooMany ∷ []
+
 -- the reader, and the grammar that it is held against
 abbrev pub reader : Reader
-reader = record { grammar = grammar; Answer = StatsAnswer; read = readStats; numberOf = λ a. a .refusal .number; shown = shown }
+reader =
+    record {
+      grammar = grammar;
+      Answer = StatsAnswer;
+      read = readStats;
+      shown = shown;
+      tailAt = λ a. a .stop;
+      told = Told.told;
+      refused = refusedAnswer;
+      refusalOf = λ a. a .refusal;
+      numbers = numbers;
+    }

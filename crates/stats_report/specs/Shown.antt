@@ -1,32 +1,23 @@
 -- How a reading is shown in the answer. Nothing here takes an input apart.
-use Prim.Native.Nat.{ℕ, _+_, _-_, _≤_}
+use Prim.Native.Nat.{ℕ, _+_, _-_}
 use mathlib.Core.List.{List, _++_}
 use lib.ListN.{length, replicate}
 use Rattle.wire.specs.Refusal.{noRefusal}
 use Rattle.wire.specs.Parts.{shownFrom, endFrom}
 use Rattle.wire.specs.declared.Refusal.{Refusal}
-use Rattle.wire.specs.Exactly.{Grammar}
 use Rattle.stats_type.specs.Shown.{typeOf}
 use Rattle.stats_type.specs.declared.StatType.the-variants.{PrefixesRejectedByInboundPolicy}
 use Rattle.stats_data.specs.Shown.{dataAt}
 use Rattle.stats_data.specs.declared.StatsData.the-variants.{Counter}
-use Rattle.stats_report.specs.Grammar.{Stat, Reading, join, Good}
+use Rattle.stats_report.specs.Grammar.{Stat, Reading, sizeOf, places}
 use Rattle.stats_report.specs.declared.StatCounter.{StatCounter}
 use Rattle.stats_report.specs.declared.StatsAnswer.{StatsAnswer}
 
 abbrev pub zeroCounter : StatCounter
 zeroCounter = record { «stat_type» = PrefixesRejectedByInboundPolicy; «stat_len» = 0; «stat_data» = Counter 0 }
 
--- the table has 64 entries
-abbrev pub places : ℕ
-places = 64
-
 unfoldable pub zeroTable : List StatCounter
 zeroTable = replicate places zeroCounter
-
--- how many bytes a record takes
-abbrev pub sizeOf : Stat → ℕ
-sizeOf t = 4 + t .size
 
 -- a record as the table shows it, where it starts at a place
 abbrev pub entry : ℕ → Stat → StatCounter
@@ -39,16 +30,8 @@ goodAnswer total count end table =
 abbrev pub refusedAnswer : Refusal → StatsAnswer
 refusedAnswer r = record { refusal = r; stop = 0; report = record { «stats_count» = 0; counters = zeroTable; count = 0 } }
 
--- a reading fits the table
-abbrev pub Fits : Reading → Type 0
-Fits r = length (r .stats) ≤ places
-
 -- the good answer: the records in order, entries past the count zero, the stop where the last record ends
 abbrev pub shown : Reading → StatsAnswer
 shown r =
     goodAnswer (r .count) (length (r .stats)) (endFrom sizeOf 4 (r .stats))
     (shownFrom sizeOf entry 4 (r .stats) ++ replicate (places - length (r .stats)) zeroCounter)
-
--- the grammar, with what fits the table
-abbrev pub grammar : Grammar
-grammar = record { Reading = Reading; join = join; Good = Good; Fits = Fits }

@@ -22,8 +22,8 @@ use Rattle.stats_type.proofs.Promises.{kind-of-type}
 use Rattle.stats_data.specs.Grammar.{valueBytes}
 use Rattle.stats_data.specs.Shown.{valueIn}
 use Rattle.stats_data_writer.proofs.Written.{fine-from, InsideData, data-bytes}
-use Rattle.stats_report.specs.Grammar.{Stat, asTlv, putStat, GoodStat, Reading, join}
-use Rattle.stats_report.specs.Shown.{zeroCounter, places, sizeOf, entry, shown}
+use Rattle.stats_report.specs.Grammar.{Stat, asTlv, putStat, GoodStat, Reading, join, places, sizeOf}
+use Rattle.stats_report.specs.Shown.{zeroCounter, entry, shown}
 use Rattle.stats_report_writer.specs.Write.{partOf, writer, kept, bytesOf, writable, SameCounter, Same}
 use Rattle.stats_report.specs.declared.StatCounter.{StatCounter}
 use Rattle.stats_report.specs.declared.StatsReport.{StatsReport}

@@ -11,7 +11,8 @@ use Rattle.writing.specs.Write.{lengthOf, Wrote}
 use Rattle.writing.specs.declared.WriteAnswer.{WriteAnswer}
 use Rattle.writing.specs.declared.WriteAnswer.the-variants.{Written}
 use Rattle.writing.proofs.Answers.{front, wrote-determined}
-use Rattle.stats_report.specs.Shown.{zeroCounter, places}
+use Rattle.stats_report.specs.Grammar.{places}
+use Rattle.stats_report.specs.Shown.{zeroCounter}
 use Rattle.stats_report_writer.specs.Write.{readingOf, bytesOf, writable}
 use Rattle.stats_report.specs.declared.StatsReport.{StatsReport}
 use Rattle.stats_report_writer.proofs.Written.{writes-of}

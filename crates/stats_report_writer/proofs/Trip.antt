@@ -15,8 +15,8 @@ use Rattle.writing.proofs.Trip.{each-same, end-sizes}
 use Rattle.stats_data_writer.proofs.Written.{fine-of, data-bytes}
 use Rattle.stats_type.specs.Shown.{kindOf}
 use Rattle.stats_type.proofs.Promises.{kind-of-type}
-use Rattle.stats_report.specs.Grammar.{GoodStat, Good}
-use Rattle.stats_report.specs.Shown.{zeroCounter, places, sizeOf, entry, shown}
+use Rattle.stats_report.specs.Grammar.{GoodStat, Good, places, sizeOf}
+use Rattle.stats_report.specs.Shown.{zeroCounter, entry, shown}
 use Rattle.stats_report.specs.Read.{readStats}
 use Rattle.stats_report_writer.specs.Write.{partOf, counterWritable, writer, kept, readingOf, bytesOf, SameCounter, Same}
 use Rattle.stats_report.specs.declared.StatCounter.{StatCounter}

@@ -18,7 +18,7 @@ use Rattle.writing.proofs.Table.{Bodied, length-joined}
 use Rattle.stats_type.specs.Shown.{kindOf}
 use Rattle.stats_data_writer.specs.Write.{dataBytes}
 use Rattle.stats_data_writer.proofs.Written.{fine-of}
-use Rattle.stats_report.specs.Shown.{places}
+use Rattle.stats_report.specs.Grammar.{places}
 use Rattle.stats_report_writer.specs.Write.{writer, oneCounter, kept, bytesOf, writable}
 use Rattle.stats_report.specs.declared.StatsReport.{StatsReport}
 use Rattle.stats_report.proofs.StatsReport as Report

@@ -11,8 +11,8 @@ use Rattle.writing.specs.Table.{Writer, parts, allOk}
 use Rattle.stats_type.specs.Shown.{kindOf}
 use Rattle.stats_data.specs.Shown.{valueIn}
 use Rattle.stats_data_writer.specs.Write.{dataBytes, dataWritable}
-use Rattle.stats_report.specs.Grammar.{Stat, putStat, Reading, join}
-use Rattle.stats_report.specs.Shown.{zeroCounter, places}
+use Rattle.stats_report.specs.Grammar.{Stat, putStat, Reading, join, places}
+use Rattle.stats_report.specs.Shown.{zeroCounter}
 use Rattle.stats_report.specs.declared.StatCounter.{StatCounter}
 use Rattle.stats_report.specs.declared.StatsReport.{StatsReport}
 

@@ -1,23 +1,32 @@
 -- What a user of the Termination body relies on. Assumes nothing.
 use mathlib.Core.Path.{_≡_, refl}
 use mathlib.Core.List.{List}
-use Prim.Native.Nat.{ℕ}
-use lib.ListN.{length}
-use Rattle.wire.specs.Parts.{AllAt}
+use Prim.Native.Nat.{ℕ, _≤_, _<_}
+use lib.ListN.{length, drop, take}
+use Rattle.wire.specs.Parts.{AllAt, endFrom}
 use Rattle.wire.specs.Tlv.{putTail}
 use Rattle.wire.proofs.Determined.{determined}
 use Rattle.wire.proofs.Exactly.{not-too-long}
 use Rattle.wire.proofs.Walk.{read-complete, each-at, read-accepted}
 use Rattle.wire.proofs.Walk as Walk
-use Rattle.wire.specs.Exactly.{Sound, Complete, Unique}
-use Rattle.termination_message.specs.Grammar.{sizeOf, Reading, join, Good}
-use Rattle.termination_message.specs.Shown.{typeOf, grammar}
-use Rattle.termination_message.specs.Read.{kit, readTermination, reader, answer}
+use Rattle.wire.specs.Refuses.{Refuses}
+use Rattle.wire.specs.Exactly.{Sound, Complete, Told, Unique}
+use Rattle.wire.specs.Number as Number
+use Rattle.wire.specs.Refusal.{refusal}
+use Rattle.wire.specs.TlvAt.{unread}
+use Rattle.wire.specs.Bytes.{Bytes}
+use Rattle.wire.specs.Lacking.{CutAfter}
+use Rattle.termination_message.specs.Grammar.{sizeOf, Reading, join, Good, grammar, places, put, ReadTlv}
+use Rattle.termination_message.specs.Shown.{typeOf, refusedAnswer, shown}
+use Rattle.termination_message.specs.Read.{kit, readTermination, reader, answer, widthsIn}
 use Rattle.termination_message.specs.declared.TerminationTlvType.{TerminationTlvType}
 use Rattle.termination_message.specs.declared.TerminationTlvValue.{TerminationTlvValue}
 use Rattle.termination_message.specs.declared.TerminationAnswer.{TerminationAnswer}
 use Rattle.termination_message.proofs.Laws.{faults, laws, tails}
 use Rattle.termination_message.proofs.Shows.{shows-of, ValueAt, value-at}
+use Rattle.termination_message.proofs.Told as ToldProofs
+use Rattle.termination_message.proofs.Refusals as Refusals
+use Rattle.termination_message.proofs.Cuts as Cuts
 
 -- What the reader accepts has a good reading that fits, and it shows that reading.
 pub sound : Sound reader
@@ -31,6 +40,23 @@ pub complete : Complete reader
 complete r g f short =
     shows-of (join r) short (r .tlvs) (r .tail) (read-complete kit laws tails 0 (join r) (r .tlvs) (r .tail) (g .each) (g .tail-good) refl f) .shown-so
 
+-- Every good reading that fits is told by the answer that shows it.
+pub told-back : Told reader
+told-back = ToldProofs.told-back
+
+-- A refusal shows nothing but itself, and has one of the reader's numbers; each of these is given for some input.
+pub refuses : Refuses reader
+refuses = Refusals.refuses
+
+-- A good reading of more TLVs than the table holds is refused with TooMany, at the first that has no room.
+pub too-many : (r : Reading) → Good r → length (join r) ≤ Number.limit → places < length (r .tlvs)
+    → readTermination (join r) ≡ refusedAnswer (refusal Number.TooMany (endFrom sizeOf 0 (take places (r .tlvs))))
+too-many = Refusals.too-many
+
+-- What follows the stop is the tail, or what is there of the value of an oversized TLV.
+pub stop-told : (r : Reading) → Good r → drop (shown r .stop) (join r) ≡ unread (r .tail)
+stop-told = ToldProofs.stop-told
+
 -- No input has two readings, whatever the table holds.
 pub unique : Unique grammar
 unique r q g h e =
@@ -40,6 +66,10 @@ unique r q g h e =
 -- Each TLV's entry, in the answer that shows a good reading, shows its value: a String's view the bytes, a Reason's name the number.
 pub views : (r : Reading) → Good r → AllAt sizeOf (ValueAt (join r)) 0 (r .tlvs)
 views r g = each-at kit laws (ValueAt (join r)) (join r) (value-at (join r)) (r .tlvs) (putTail (r .tail)) 0 (g .each) refl
+
+-- A Cut is at the first part that is not whole, behind TLVs that are.
+pub refuses-cut : (s : List ℕ) → Bytes s → readTermination s .refusal .number ≡ Number.Cut → CutAfter put ReadTlv sizeOf widthsIn 0 s (readTermination s .refusal .place)
+refuses-cut = Cuts.refuses-cut
 
 -- ---- any two answers that the contracts allow are equal
 -- Two types that info_type may tell of the same value are equal.

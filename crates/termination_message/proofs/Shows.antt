@@ -1,7 +1,7 @@
 -- What the reader shows: a good reading, with views that show its values. Assumes nothing.
 use mathlib.Core.Path.{_≡_, refl, ap, _∙_}
 use mathlib.Core.List.{List}
-use Prim.Native.Nat.{ℕ, zero, suc, _+_, _≤_}
+use Prim.Native.Nat.{ℕ, _+_, _≤_}
 use native.Mathlib.Omega.{arith}
 use borrow.Author.Tests.{le-ltb}
 use lib.ListN.{length, drop}
@@ -10,13 +10,15 @@ use Rattle.wire.specs.View.{view, viewed}
 use Rattle.wire.specs.Tlv.{Tail}
 use Rattle.wire.proofs.Tlv.{tlv-viewed, tail-join}
 use Rattle.wire.proofs.Walk as Walk
+use Rattle.wire.proofs.Arms.{number-of-name}
 use Rattle.wire.specs.Exactly.{Shows}
 use Rattle.termination_message.specs.Grammar.{Tlv, string, reason, put, ReadTlv}
-use Rattle.termination_message.specs.Shown.{reasonOf, codeOf, shown}
+use Rattle.termination_message.specs.Shown.{reasonOf, codeOf, shown, names}
 use Rattle.termination_message.specs.Read.{kit, answer, reader}
+use Rattle.termination_message.specs.declared.TerminationReason.the-variants.{PermanentlyAdministrativelyClosed}
 use Rattle.termination_message.proofs.Laws.{laws, tails}
 
-pub shows-of : (s : List ℕ) → length s ≤ Number.limit → (l : List Tlv) (t : Tail) → Walk.Accepts kit laws tails 0 s l t → Shows reader s (record { tlvs = l; tail = t })
+pub shows-of : (s : List ℕ) → length s ≤ Number.limit → (l : List Tlv) (t : Tail) → Walk.ShowsItems kit laws tails 0 s l t → Shows reader s (record { tlvs = l; tail = t })
 shows-of s h l t a =
     record {
       reading = record { is-good = record { each = a .each; tail-good = a .tail-good }; fits = a .few; joined = a .joined };
@@ -28,15 +30,10 @@ abbrev pub ValueAt : List ℕ → ℕ → Tlv → Type 0
 ValueAt s at (string size value) = viewed s (view (at + 4) size) ≡ value
 ValueAt s at (reason size code) = codeOf (reasonOf code) ≡ code
 
-code-named : (n : ℕ) → n ≤ 4 → codeOf (reasonOf n) ≡ n
+pub code-told : (n : ℕ) → n ≤ 4 → codeOf (reasonOf n) ≡ n
 unfolding reasonOf codeOf
-code-named zero h = refl
-code-named (suc zero) h = refl
-code-named (suc (suc zero)) h = refl
-code-named (suc (suc (suc zero))) h = refl
-code-named (suc (suc (suc (suc zero)))) h = refl
-code-named (suc (suc (suc (suc (suc n))))) h = absurd (omega arith)
+code-told n h = number-of-name codeOf n PermanentlyAdministrativelyClosed names refl (λ k. omega arith)
 
 pub value-at : (s : List ℕ) (at : ℕ) (t : Tlv) (r : List ℕ) → ReadTlv t r → drop at s ≡ put t r → ValueAt s at t
 value-at s at (string size value) r g e = tlv-viewed (record { kind = 0; size = size; value = value }) r (g .well-formed) s at e
-value-at s at (reason size code) r g e = code-named code (g .code-known)
+value-at s at (reason size code) r g e = code-told code (g .code-known)

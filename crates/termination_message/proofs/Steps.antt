@@ -13,8 +13,7 @@ use Rattle.wire.specs.Number as Number
 use Rattle.wire.specs.Bytes.{pick, numAt}
 use Rattle.wire.specs.Refusal.{refusal, cutAt}
 use Rattle.cursor.specs.Read.{cursor}
-use Rattle.wire.specs.Tlv.{stopAt}
-use Rattle.wire.specs.TlvAt.{tailOf}
+use Rattle.wire.specs.TlvAt.{tailOf, stopAt}
 use Rattle.wire.specs.Walk as Walk
 use Rattle.wire.specs.Walk.{stop, bad, item, from}
 use Rattle.wire.specs.declared.Refusal.{Refusal}
@@ -22,7 +21,7 @@ use Rattle.cursor.specs.declared.Cursor.{Cursor}
 use Rattle.wire.proofs.Tlv.{NoTlv}
 use Rattle.termination_message.specs.Grammar.{Tlv, sizeOf}
 use Rattle.termination_message.specs.Shown.{stringEntry, reasonEntry, entry}
-use Rattle.termination_message.specs.Read.{stringIn, reasonIn, step, told, stepAt}
+use Rattle.termination_message.specs.Read.{stringIn, reasonIn, step, asStep, stepAt}
 use Rattle.termination_message.specs.declared.TerminationTlv.{TerminationTlv}
 use Rattle.termination_message.specs.declared.Step.the-variants.{Stop, Bad, Whole}
 
@@ -156,7 +155,7 @@ module _ (s : List ℕ) (at : ℕ) where
       pub string-at : kind ≡ 0 → size ≤ length s - place → stepAt s at ≡ Whole (stringEntry size place) (cursor (place + size))
       string-at k h =
           let there : at + (4 + numAt 2 (drop at s) 2) ≡ place + size = omega arith in
-          ap (told at (drop at s)) (of (drop at s) (text (begun-at 0 k h)))
+          ap (asStep at (drop at s)) (of (drop at s) (text (begun-at 0 k h)))
           ∙ (λ i. Whole (stringEntry (size-is i) (sym place-is i)) (cursor (there i)))
 
       module _ (one : kind ≡ 1) (fits : size ≤ length s - place) where
@@ -170,31 +169,31 @@ module _ (s : List ℕ) (at : ℕ) where
           pub known-at : code ≤ 4 → (c : Cursor) → c .at ≡ place + 2 → stepAt s at ≡ Whole (reasonEntry size code) c
           known-at h c e =
               let there : at + 6 ≡ c .at = omega arith in
-              ap (told at (drop at s)) (of (drop at s) (known (begun-at 1 one fits) (rw length-drop (omega arith)) (rw code-is h)))
+              ap (asStep at (drop at s)) (of (drop at s) (known (begun-at 1 one fits) (rw length-drop (omega arith)) (rw code-is h)))
               ∙ (λ i. Whole (reasonEntry (size-is i) (code-is i)) (cursor (there i)))
 
 -- ---- and the other way
-pub was-stop : (at p : ℕ) (s : List ℕ) → told at s (step s) ≡ Stop p → (step s ≡ stop) × (p ≡ stopAt at (tailOf s))
+pub was-stop : (at p : ℕ) (s : List ℕ) → asStep at s (step s) ≡ Stop p → (step s ≡ stop) × (p ≡ stopAt at (tailOf s))
 was-stop at p s e = go (step s) refl e
   where
-    go : (x : Walk.Step Tlv) → step s ≡ x → told at s x ≡ Stop p → (step s ≡ stop) × (p ≡ stopAt at (tailOf s))
+    go : (x : Walk.Step Tlv) → step s ≡ x → asStep at s x ≡ Stop p → (step s ≡ stop) × (p ≡ stopAt at (tailOf s))
     go stop h q = (h, cc)
     go (bad r) h q = (cc, cc)
     go (item t) h q = (cc, cc)
 
-pub was-bad : (at : ℕ) (r : Refusal) (s : List ℕ) → told at s (step s) ≡ Bad r → (d : Refusal) × (step s ≡ bad d) × (from at d ≡ r)
+pub was-bad : (at : ℕ) (r : Refusal) (s : List ℕ) → asStep at s (step s) ≡ Bad r → (d : Refusal) × (step s ≡ bad d) × (from at d ≡ r)
 was-bad at r s e = go (step s) refl e
   where
-    go : (x : Walk.Step Tlv) → step s ≡ x → told at s x ≡ Bad r → (d : Refusal) × (step s ≡ bad d) × (from at d ≡ r)
+    go : (x : Walk.Step Tlv) → step s ≡ x → asStep at s x ≡ Bad r → (d : Refusal) × (step s ≡ bad d) × (from at d ≡ r)
     go stop h q = (r, cc, cc)
     go (bad d) h q = (d, h, cc)
     go (item t) h q = (r, cc, cc)
 
-pub was-whole : (at : ℕ) (u : TerminationTlv) (c : Cursor) (s : List ℕ) → told at s (step s) ≡ Whole u c
+pub was-whole : (at : ℕ) (u : TerminationTlv) (c : Cursor) (s : List ℕ) → asStep at s (step s) ≡ Whole u c
     → (t : Tlv) × (step s ≡ item t) × (entry at t ≡ u) × (at + sizeOf t ≡ c .at)
 was-whole at u c s e = go (step s) refl e
   where
-    go : (x : Walk.Step Tlv) → step s ≡ x → told at s x ≡ Whole u c → (t : Tlv) × (step s ≡ item t) × (entry at t ≡ u) × (at + sizeOf t ≡ c .at)
+    go : (x : Walk.Step Tlv) → step s ≡ x → asStep at s x ≡ Whole u c → (t : Tlv) × (step s ≡ item t) × (entry at t ≡ u) × (at + sizeOf t ≡ c .at)
     go stop h q = (stringIn s, cc, cc, cc)
     go (bad r) h q = (stringIn s, cc, cc, cc)
     go (item t) h q = (t, h, cc, cc)

@@ -16,6 +16,7 @@ use lib.ListN.{length}
 use Rattle.wire.specs.Bytes.{be}
 use Rattle.wire.specs.Parts.{joinAll, EachGood}
 use Rattle.wire.specs.Tlv.{putTlv, GoodTlv, Tail, short, oversized, putTail, GoodTail}
+use Rattle.wire.specs.Exactly.{Grammar, Nothing, skipsNothing}
 
 pub data Tlv : Type 0 where
   string : (size : ℕ) → (value : List ℕ) → Tlv
@@ -64,3 +65,24 @@ pub record ReadTail (t : Tail) : Type 0 where
 pub record Good (r : Reading) : Type 0 where
   pub each : EachGood put ReadTlv (r .tlvs) (putTail (r .tail))
   pub tail-good : ReadTail (r .tail)
+
+-- the table has 32 entries
+abbrev pub places : ℕ
+places = 32
+
+-- a reading fits the table
+abbrev pub Fits : Reading → Type 0
+Fits r = length (r .tlvs) ≤ places
+
+-- the grammar, with what fits the table
+abbrev pub grammar : Grammar
+grammar =
+    record {
+      Reading = Reading;
+      join = join;
+      Good = Good;
+      Fits = Fits;
+      Skipped = Nothing;
+      skipped = skipsNothing;
+      tail = λ r. putTail (r .tail);
+    }

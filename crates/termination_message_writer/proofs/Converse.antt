@@ -19,8 +19,8 @@ use Rattle.writing.proofs.Table.{kept-each}
 use Rattle.writing.proofs.Trip.{table-back}
 use Rattle.tlv_table.proofs.Written.{good-fits}
 use Rattle.tlv_table.proofs.Translated.{no-tail-translated}
-use Rattle.termination_message.specs.Grammar.{Tlv, string, reason, put, sizeOf, ReadString, ReadTlv, Reading, join}
-use Rattle.termination_message.specs.Shown.{codeOf, zeroTlv, places, entry}
+use Rattle.termination_message.specs.Grammar.{Tlv, string, reason, put, sizeOf, ReadString, ReadTlv, Reading, join, places}
+use Rattle.termination_message.specs.Shown.{codeOf, zeroTlv, entry}
 use Rattle.termination_message_writer.specs.Write.{partOf, writer, kept, bytesOf, writable, entryOf, SameTlv, SameValue, Same}
 use Rattle.termination_message.specs.declared.TerminationTlvValue.{TerminationTlvValue}
 use Rattle.termination_message.specs.declared.TerminationTlv.{TerminationTlv}

@@ -13,7 +13,8 @@ use Rattle.writing.specs.declared.WriteAnswer.the-variants.{Written}
 use Rattle.writing.proofs.Answers.{front, wrote-determined}
 use Rattle.writing.proofs.Table.{length-parts, kept-of}
 use Rattle.tlv_table.proofs.Translated.{bytes-translated}
-use Rattle.termination_message.specs.Shown.{zeroTlv, places}
+use Rattle.termination_message.specs.Grammar.{places}
+use Rattle.termination_message.specs.Shown.{zeroTlv}
 use Rattle.termination_message_writer.specs.Write.{writer, kept, readingOf, bytesOf, writable, entryOf}
 use Rattle.termination_message.specs.declared.TerminationMessage.{TerminationMessage}
 use Rattle.termination_message_writer.proofs.Written.{translates}

@@ -15,8 +15,8 @@ use Rattle.writing.proofs.Tlv.{tlv-good}
 use Rattle.writing.proofs.Table.{all-good, length-parts, length-sizes, Kept}
 use Rattle.writing.proofs.Trip.{table-same, end-sizes}
 use Rattle.tlv_table.proofs.Translated.{length-translated}
-use Rattle.termination_message.specs.Grammar.{sizeOf, ReadTlv, Good}
-use Rattle.termination_message.specs.Shown.{codeOf, zeroTlv, places, entry, shown}
+use Rattle.termination_message.specs.Grammar.{sizeOf, ReadTlv, Good, places}
+use Rattle.termination_message.specs.Shown.{codeOf, zeroTlv, entry, shown}
 use Rattle.termination_message.specs.Read.{readTermination}
 use Rattle.termination_message_writer.specs.Write.{partOf, tlvWritable, writer, kept, readingOf, bytesOf, entryOf, SameValue, SameTlv, Same}
 use Rattle.termination_message.specs.declared.TerminationReason.{TerminationReason}

@@ -14,8 +14,7 @@ use Rattle.tlv_table.specs.Tlvs as Tlvs
 use Rattle.tlv_table.specs.Tlvs.{entryWritable}
 use Rattle.tlv_table.proofs.Walked.{WalkedTlvFits, walked-of, walked-from}
 use Rattle.tlv_table.proofs.Translated.{Translates}
-use Rattle.termination_message.specs.Grammar.{put}
-use Rattle.termination_message.specs.Shown.{places}
+use Rattle.termination_message.specs.Grammar.{put, places}
 use Rattle.termination_message_writer.specs.Write.{partOf, valueWritable, tlvWritable, writer, valueEntry, entryOf}
 use Rattle.termination_message.specs.declared.TerminationTlvValue.{TerminationTlvValue}
 use Rattle.termination_message.specs.declared.TerminationTlv.{TerminationTlv}

@@ -13,8 +13,8 @@ use Rattle.tlv_table.specs.Tlvs.{walkedTlvFits}
 use Rattle.tlv_table.specs.declared.TlvValue.the-variants.{Part, Number}
 use Rattle.tlv_table.specs.declared.TlvEntry.{TlvEntry}
 use Rattle.tlv_table.specs.declared.TlvTable.{TlvTable}
-use Rattle.termination_message.specs.Grammar.{Tlv, string, reason, put, Reading, join}
-use Rattle.termination_message.specs.Shown.{codeOf, zeroTlv, places}
+use Rattle.termination_message.specs.Grammar.{Tlv, string, reason, put, Reading, join, places}
+use Rattle.termination_message.specs.Shown.{codeOf, zeroTlv}
 use Rattle.termination_message.specs.declared.TerminationTlvValue.{TerminationTlvValue}
 use Rattle.termination_message.specs.declared.TerminationTlv.{TerminationTlv}
 use Rattle.termination_message.specs.declared.TerminationMessage.{TerminationMessage}

@@ -2,10 +2,11 @@
 use mathlib.Core.Path.{_≡_, refl, sym, _∙_}
 use mathlib.Core.List.{List, [], _∷_}
 use mathlib.Core.Bool.{Bool, true, false}
-use Prim.Native.Nat.{ℕ}
+use Prim.Native.Nat.{ℕ, zero, suc, _+_, _≤_}
 use native.Mathlib.Omega.{arith}
 use borrow.Author.Tests.{eqb-true, ne-eqb}
 use lib.Dec.{eqb}
+use lib.ListN.{length, getD}
 use Rattle.wire.specs.Bytes.{pick}
 use Rattle.wire.specs.Arms.{armOf}
 
@@ -39,3 +40,23 @@ number-of-arm f n d e (x ∷ l) t = go (eqb (f (x .1)) (x .0)) refl (eqb n (x .0
     go true h true k i t = eqb-true (f (x .1)) (x .0) h ∙ sym (eqb-true n (x .0) k)
     go true h false k i t = i t
     go false h b k i t = let z : _≡_ {A = ℕ} 0 1 = cc in absurd (omega arith)
+
+-- ---- names in the order of their numbers, the first of them k: a test that antt computes
+abbrev pub inOrder : {A : Type 0} → (A → ℕ) → ℕ → List A → Bool
+inOrder f k [] = true
+inOrder f k (x ∷ l) = pick (eqb (f x) k) (inOrder f (suc k) l) false
+
+number-from : {A : Type 0} (f : A → ℕ) (d : A) (k n : ℕ) (l : List A) → inOrder f k l ≡ true → (length l ≤ n → f d ≡ k + n) → f (getD l n d) ≡ k + n
+number-from f d k n [] t e = e (omega arith)
+number-from f d k n (x ∷ l) t e = go (eqb (f x) k) refl n e (λ m. number-from f d (suc k) m l) t
+  where
+    go : (a : Bool) → eqb (f x) k ≡ a → (n : ℕ) → (suc (length l) ≤ n → f d ≡ k + n)
+        → ((m : ℕ) → inOrder f (suc k) l ≡ true → (length l ≤ m → f d ≡ suc k + m) → f (getD l m d) ≡ suc k + m)
+        → pick a (inOrder f (suc k) l) false ≡ true → f (getD (x ∷ l) n d) ≡ k + n
+    go true h zero e i t = eqb-true (f x) k h ∙ omega arith
+    go true h (suc m) e i t = i m t (λ h. e (omega arith) ∙ omega arith) ∙ omega arith
+    go false h n e i t = let z : _≡_ {A = ℕ} 0 1 = cc in absurd (omega arith)
+
+-- then the name of n stands for n, where the name of all numbers above them does
+pub number-of-name : {A : Type 0} (f : A → ℕ) (n : ℕ) (d : A) (l : List A) → inOrder f 0 l ≡ true → (length l ≤ n → f d ≡ n) → f (getD l n d) ≡ n
+number-of-name f n d l t e = number-from f d 0 n l t (λ h. e h ∙ omega arith) ∙ omega arith

@@ -1,8 +1,12 @@
 pub mod Bytes
+pub mod Held
 pub mod Views
 pub mod Tlv
 pub mod Walk
 pub mod Arms
+pub mod Rfc
 pub mod Exactly
+pub mod Refuses
+pub mod Cuts
 pub mod Determined
 pub mod Promises

@@ -10,7 +10,7 @@ use lib.Seq.{take-at, drop-at, drop-drop, length-take-le}
 use Rattle.wire.specs.Bytes.{be, value, numAt, Bytes}
 use Rattle.wire.specs.View.{view, viewed}
 use Rattle.wire.specs.Tlv.{Tlv, putTlv, sizeOf, GoodTlv, Tail, short, oversized, putTail, GoodTail}
-use Rattle.wire.specs.TlvAt.{tlvOf, tailOf}
+use Rattle.wire.specs.TlvAt.{tlvOf, tailOf, stopAt, unread}
 use Rattle.wire.proofs.Bytes.{value-be, num-lt, num-back, part-back, bytes-take, bytes-drop}
 use Rattle.wire.proofs.Views.{viewed-part}
 
@@ -94,6 +94,12 @@ tail-parts s p (inr h) =
       },
       rw (num-back 2 2 p (omega (arith, h .0))) (num-back 2 0 p (omega (arith, h .0))),
     )
+
+-- where the tail starts at a place of s, what follows the stop is what was not read of it
+pub stop-behind : (s : List ℕ) (at : ℕ) (t : Tail) → drop at s ≡ putTail t → drop (stopAt at t) s ≡ unread t
+unfolding be
+stop-behind s at (short z) e = e
+stop-behind s at (oversized kind size z) e = sym (drop-drop 4 at s) ∙ ap (drop 4) e
 
 -- ---- a TLV whose value is a number of two bytes, whatever its length says
 pub record Coded (kind size code : ℕ) (s : List ℕ) : Type 0 where

@@ -1,5 +1,5 @@
 -- The laws of a walk over items, proved once for every kit. Assumes nothing.
-use mathlib.Core.Path.{_≡_, refl, sym, ap, _∙_, subst}
+use mathlib.Core.Path.{_≡_, refl, sym, ap, ap₂, _∙_, subst}
 use mathlib.Core.List.{List, [], _∷_, _++_, append-assoc}
 use mathlib.Core.Logic.{_⊎_, inl, inr, ⊎-elim}
 use mathlib.Core.Bool.{Bool, true, false}
@@ -8,12 +8,12 @@ use native.Mathlib.Omega.{arith}
 use native.Mathlib.Nat.{sub-zero, add-zero, zero-add, suc-sub-suc}
 use borrow.Author.Tests.{lt-leb, le-leb, leb-false}
 use lib.Dec.{leb}
-use lib.ListN.{length, drop, set, replicate, length-drop, length-append}
+use lib.ListN.{length, take, drop, set, replicate, length-drop, length-append}
 use lib.Seq.{drop-drop, set-at}
 use Rattle.wire.specs.Number as Number
 use Rattle.wire.specs.Bytes.{Bytes}
 use Rattle.wire.specs.Refusal.{refusal}
-use Rattle.wire.specs.Parts.{joinAll, EachGood, shownFrom, endFrom, AllAt}
+use Rattle.wire.specs.Parts.{joinAll, EachGood, shownFrom, itemsIn, endFrom, AllAt}
 use Rattle.wire.specs.Walk.{Step, stop, bad, item, End, tail, fault, Walked, Kit, next, walk, Out, good, refused, from, fill, resume, readFrom, shows}
 use Rattle.wire.specs.declared.Refusal.{Refusal}
 use Rattle.wire.proofs.Bytes.{bytes-drop}
@@ -138,6 +138,19 @@ fill-accepts K (a ∷ l) n at table e c b t z h q =
         let j = i (omega arith) (rw r at q) in
         (omega arith, j .1)
 
+-- ---- more items than the table holds are refused at the first that has no room, whatever follows it
+fill-full : (K : Kit) (l : List (K .Item)) (k n at : ℕ) (table : List (K .Entry)) (e : End) → n + k ≡ K .limit → k < length l
+    → fill K n at table l e ≡ refused (refusal Number.TooMany (endFrom (K .size) at (take k l)))
+unfolding fill
+fill-full K [] k n at table e room h = absurd (omega arith)
+fill-full K (a ∷ l) zero n at table e room h = rw (le-leb (K .limit) n (omega arith))
+fill-full K (a ∷ l) (suc k) n at table e room h =
+    rw (lt-leb (K .limit) n (omega arith)) (fill-full K l k (n + 1) (at + K .size a) (set table n (K .entry at a)) e (omega arith) (omega arith))
+
+too-many : (K : Kit) (f at : ℕ) (s : List ℕ) (l : List (K .Item)) (e : End) → walk K f (drop at s) ≡ record { items = l; end = e } → K .limit < length l
+    → readFrom K f at s ≡ refused (refusal Number.TooMany (endFrom (K .size) at (take (K .limit) l)))
+too-many K f at s l e w h = rw w (fill-full K l (K .limit) 0 at (replicate (K .limit) (K .none)) e (omega arith) h)
+
 -- ---- what holds of the number of each fault, and of TooMany, holds of a refusal's number
 abbrev pub BadIn : {A : Type 0} → (ℕ → Type 0) → Step A → Type 0
 BadIn P stop = Unit {0}
@@ -193,13 +206,13 @@ pub record Laws (K : Kit) (put : K .Item → List ℕ → List ℕ) (G : K .Item
 
 module _ (K : Kit) {put : K .Item → List ℕ → List ℕ} {G : K .Item → List ℕ → Type 0} (laws : Laws K put G) where
   -- what a walk of at most f items has found, where it ends with a tail
-  pub record Sound (f : ℕ) (w : Walked (K .Item)) (z s : List ℕ) : Type 0 where
+  pub record ItemsOf (f : ℕ) (w : Walked (K .Item)) (z s : List ℕ) : Type 0 where
     pub each : EachGood put G (w .items) z
     pub joined : joinAll put (w .items) z ≡ s
     pub are-bytes : Bytes z
     pub ended : (K .step z ≡ stop) ⊎ (length (w .items) ≡ f)
 
-  pub walk-sound : (f : ℕ) (s : List ℕ) → Bytes s → (z : List ℕ) → walk K f s .end ≡ tail z → Sound f (walk K f s) z s
+  pub walk-sound : (f : ℕ) (s : List ℕ) → Bytes s → (z : List ℕ) → walk K f s .end ≡ tail z → ItemsOf f (walk K f s) z s
   unfolding walk
   walk-sound zero s p z e =
       let q : s ≡ z = cc in
@@ -208,8 +221,8 @@ module _ (K : Kit) {put : K .Item → List ℕ → List ℕ} {G : K .Item → Li
     where
       go : (x : Step (K .Item)) → K .step s ≡ x
           → ((a : K .Item) → Bytes (drop (K .size a) s) → (z : List ℕ) → walk K f (drop (K .size a) s) .end ≡ tail z
-          → Sound f (walk K f (drop (K .size a) s)) z (drop (K .size a) s))
-          → next x s (λ a. walk K f (drop (K .size a) s)) .end ≡ tail z → Sound (suc f) (next x s (λ a. walk K f (drop (K .size a) s))) z s
+          → ItemsOf f (walk K f (drop (K .size a) s)) z (drop (K .size a) s))
+          → next x s (λ a. walk K f (drop (K .size a) s)) .end ≡ tail z → ItemsOf (suc f) (next x s (λ a. walk K f (drop (K .size a) s))) z s
       go stop x i e =
           let q : s ≡ z = cc in
           record { each = tt; joined = sym q; are-bytes = subst Bytes q p; ended = inl (subst (λ (y : List ℕ). K .step y ≡ stop) q x) }
@@ -260,7 +273,7 @@ pub record Tails (K : Kit) (Tail : Type 0) (putTail : Tail → List ℕ) (GoodTa
 module _ (K : Kit) {put : K .Item → List ℕ → List ℕ} {G : K .Item → List ℕ → Type 0} (laws : Laws K put G)
     {Tail : Type 0} {putTail : Tail → List ℕ} {GoodTail : Tail → Type 0} (tails : Tails K Tail putTail GoodTail) where
   -- the reader shows a good reading of what stands from a place on
-  pub record Accepts (at : ℕ) (s : List ℕ) (l : List (K .Item)) (t : Tail) : Type 0 where
+  pub record ShowsItems (at : ℕ) (s : List ℕ) (l : List (K .Item)) (t : Tail) : Type 0 where
     pub each : EachGood put G l (putTail t)
     pub tail-good : GoodTail t
     pub joined : joinAll put l (putTail t) ≡ drop at s
@@ -274,14 +287,22 @@ module _ (K : Kit) {put : K .Item → List ℕ → List ℕ} {G : K .Item → Li
       walk-join K laws l (putTail t) f g (omega arith) (inl (tails .ends t h .0))
 
   pub read-complete : (at : ℕ) (s : List ℕ) (l : List (K .Item)) (t : Tail) → EachGood put G l (putTail t) → GoodTail t
-      → joinAll put l (putTail t) ≡ drop at s → length l ≤ K .limit → Accepts at s l t
+      → joinAll put l (putTail t) ≡ drop at s → length l ≤ K .limit → ShowsItems at s l t
   read-complete at s l t g h e few =
       let d : length (joinAll put l (putTail t)) ≤ length s = rw e (simp length-drop (omega arith)) in
       let w : walk K (length s) (drop at s) ≡ record { items = l; end = tail (putTail t) } = ap (walk K (length s)) (sym e) ∙ walk-all l t (length s) g h d in
       record { each = g; tail-good = h; joined = e; few = few; shown-so = shown-good K laws (length s) at s l (putTail t) w few }
 
+  -- a good reading of more items than the table holds is refused at the first that has no room
+  pub read-too-many : (at : ℕ) (s : List ℕ) (l : List (K .Item)) (t : Tail) → EachGood put G l (putTail t) → GoodTail t
+      → joinAll put l (putTail t) ≡ drop at s → K .limit < length l
+      → readFrom K (length s) at s ≡ refused (refusal Number.TooMany (endFrom (K .size) at (take (K .limit) l)))
+  read-too-many at s l t g h e many =
+      let d : length (joinAll put l (putTail t)) ≤ length s = rw e (simp length-drop (omega arith)) in
+      too-many K (length s) at s l (tail (putTail t)) (ap (walk K (length s)) (sym e) ∙ walk-all l t (length s) g h d) many
+
   pub read-sound : (at : ℕ) (s : List ℕ) → Bytes s → (c b : ℕ) (table : List (K .Entry)) (z : List ℕ) → readFrom K (length s) at s ≡ good c b table z
-      → (l : List (K .Item)) × (t : Tail) × Accepts at s l t
+      → (l : List (K .Item)) × (t : Tail) × ShowsItems at s l t
   read-sound at s p c b table z e =
       let w = walk K (length s) (drop at s) in
       let f = fill-accepts K (w .items) 0 at (replicate (K .limit) (K .none)) (w .end) c b table z (omega arith) e in
@@ -295,10 +316,10 @@ module _ (K : Kit) {put : K .Item → List ℕ → List ℕ} {G : K .Item → Li
   -- what a reader has walked over where its number is 0, by how it answers what the walk has found
   pub read-accepted : {A : Type 0} (number : A → ℕ) (answer : Out (K .Entry) → A) → Faults K → ((r : Refusal) → number (answer (refused r)) ≡ r .number)
       → (at : ℕ) (s : List ℕ) → Bytes s → number (answer (readFrom K (length s) at s)) ≡ Number.Good
-      → (l : List (K .Item)) × (t : Tail) × Accepts at s l t
+      → (l : List (K .Item)) × (t : Tail) × ShowsItems at s l t
   read-accepted number answer faults numbered at s p e = go (readFrom K (length s) at s) refl
     where
-      go : (o : Out (K .Entry)) → readFrom K (length s) at s ≡ o → (l : List (K .Item)) × (t : Tail) × Accepts at s l t
+      go : (o : Out (K .Entry)) → readFrom K (length s) at s ≡ o → (l : List (K .Item)) × (t : Tail) × ShowsItems at s l t
       go (good n end table z) k = read-sound at s p n end table z k
       go (refused r) k =
           let f = read-fault K faults (length s) at s r k in
@@ -336,6 +357,12 @@ module _ (K : Kit) {put : K .Item → List ℕ → List ℕ} {G : K .Item → Li
       let w : walk K f (drop at s) ≡ record { items = l; end = tail z } = ap (walk K f) (sym e) ∙ walk-join K laws l z f g (omega arith) (inr n) in
       record { each = g; as-many = n; tail-bytes = p; joined = e; few = few; shown-so = shown-good K laws f at s l z w few }
 
+  pub counted-too-many : (f at : ℕ) (s : List ℕ) (l : List (K .Item)) (z : List ℕ) → EachGood put G l z → length l ≡ f
+      → joinAll put l z ≡ drop at s → K .limit < length l
+      → readFrom K f at s ≡ refused (refusal Number.TooMany (endFrom (K .size) at (take (K .limit) l)))
+  counted-too-many f at s l z g n e many =
+      too-many K f at s l (tail z) (ap (walk K f) (sym e) ∙ walk-join K laws l z f g (omega arith) (inr n)) many
+
   pub counted-sound : Never K → (f at : ℕ) (s : List ℕ) → Bytes s → (c b : ℕ) (table : List (K .Entry)) (z : List ℕ) → readFrom K f at s ≡ good c b table z
       → (l : List (K .Item)) × Counts f at s l z
   counted-sound never f at s p c b table z e =
@@ -365,6 +392,31 @@ each-at K {put} laws P s h (a ∷ l) z at g e = (
   each-at K laws P s h l z (at + K .size a) (g .1)
       (sym (laws .forth a (joinAll put l z) (g .0) .1) ∙ ap (drop (K .size a)) e ∙ drop-drop (K .size a) at s),
 )
+
+-- ---- back from the table: where each entry tells its item, the entries below the count tell the items
+pub items-told : {A T : Type 0} (size : A → ℕ) (entry : ℕ → A → T) (told : T → A) (l : List A) (at : ℕ) (rest : List T)
+    → AllAt size (λ at a. told (entry at a) ≡ a) at l → itemsIn told (length l) (shownFrom size entry at l ++ rest) ≡ l
+items-told size entry told [] at rest h = refl
+items-told size entry told (a ∷ l) at rest h = ap₂ _∷_ (h .0) (items-told size entry told l (at + size a) rest (h .1))
+
+-- and what stands behind the last item is the tail
+pub tail-behind : (K : Kit) {put : K .Item → List ℕ → List ℕ} {G : K .Item → List ℕ → Type 0} → Laws K put G
+    → (s : List ℕ) (l : List (K .Item)) (z : List ℕ) (at : ℕ) → EachGood put G l z → joinAll put l z ≡ drop at s → drop (endFrom (K .size) at l) s ≡ z
+tail-behind K laws s [] z at g e = sym e
+tail-behind K {put} laws s (a ∷ l) z at g e =
+    tail-behind K laws s l z (at + K .size a) (g .1)
+    (sym (laws .forth a (joinAll put l z) (g .0) .1) ∙ ap (drop (K .size a)) e ∙ drop-drop (K .size a) at s)
+
+-- which is inside
+pub end-within : (K : Kit) {put : K .Item → List ℕ → List ℕ} {G : K .Item → List ℕ → Type 0} → Laws K put G
+    → (s : List ℕ) (l : List (K .Item)) (z : List ℕ) (at : ℕ) → EachGood put G l z → joinAll put l z ≡ drop at s → at ≤ length s → endFrom (K .size) at l ≤ length s
+end-within K laws s [] z at g e h = h
+end-within K {put} laws s (a ∷ l) z at g e h =
+    let r = joinAll put l z in
+    let v = laws .forth a r (g .0) in
+    let t = laws .takes (put a r) a (v .0) in
+    let n : length (put a r) ≡ length s - at = ap length e ∙ length-drop at s in
+    end-within K laws s l z (at + K .size a) (g .1) (sym (v .1) ∙ ap (drop (K .size a)) e ∙ drop-drop (K .size a) at s) (omega arith)
 
 -- ---- where items and a tail join to the bytes of the items alone, there is no tail
 module _ {A : Type 0} (put : A → List ℕ → List ℕ) (long : A → ℕ) (put-long : (a : A) (r : List ℕ) → length (put a r) ≡ long a + length r) where

@@ -6,5 +6,8 @@ pub mod Parts
 pub mod Tlv
 pub mod TlvAt
 pub mod Walk
+pub mod Lacking
 pub mod Arms
+pub mod Rfc
 pub mod Exactly
+pub mod Refuses

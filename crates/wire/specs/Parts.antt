@@ -1,6 +1,7 @@
 -- Items one after the other, and then a tail: what every grammar of a list of items shares. Nothing here takes an input apart.
 use Prim.Native.Nat.{ℕ, _+_}
-use mathlib.Core.List.{List, [], _∷_}
+use mathlib.Core.List.{List, [], _∷_, map}
+use lib.ListN.{take}
 
 -- `put a r` are the bytes of the item a, and then r
 abbrev pub joinAll : {A : Type 0} → (A → List ℕ → List ℕ) → List A → List ℕ → List ℕ
@@ -16,6 +17,10 @@ EachGood put G (a ∷ l) z = G a (joinAll put l z) × EachGood put G l z
 abbrev pub shownFrom : {A T : Type 0} → (A → ℕ) → (ℕ → A → T) → ℕ → List A → List T
 shownFrom size entry at [] = []
 shownFrom size entry at (a ∷ l) = entry at a ∷ shownFrom size entry (at + size a) l
+
+-- and back: the items that the first n entries of a table tell
+abbrev pub itemsIn : {A T : Type 0} → (T → A) → ℕ → List T → List A
+itemsIn item n table = map item (take n table)
 
 -- the place after the last of them
 abbrev pub endFrom : {A : Type 0} → (A → ℕ) → ℕ → List A → ℕ

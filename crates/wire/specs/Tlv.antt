@@ -46,8 +46,3 @@ pub record Oversized (kind size : ℕ) (z : List ℕ) : Type 0 where
 abbrev pub GoodTail : Tail → Type 0
 GoodTail (short z) = (length z ≤ 4) × Bytes z
 GoodTail (oversized kind size z) = Oversized kind size z
-
--- the bytes consumed, where the last TLV ends at a place: the type and the length of an oversized TLV are read too
-abbrev pub stopAt : ℕ → Tail → ℕ
-stopAt at (short z) = at
-stopAt at (oversized kind size z) = at + 4

@@ -7,7 +7,8 @@ use Prim.Native.Nat.{_-_, _≤_}
 use lib.ListN.{length, drop}
 use native.Mathlib.Nat.{sub-zero}
 use Rattle.initiation_message.specs.Read.{kit, answer, readInitiation}
-use Rattle.initiation_message.specs.Shown.{places, zeroTable}
+use Rattle.initiation_message.specs.Grammar.{places}
+use Rattle.initiation_message.specs.Shown.{zeroTable}
 use Rattle.initiation_message.proofs.Laws.{takes, onward}
 use Rattle.initiation_message.proofs.Steps.{was-stop}
 use Rattle.wire.proofs.Walk.{resume-stop, onwards, TurnTo}

@@ -8,7 +8,8 @@ use lib.ListN.{length}
 use lib.Seq.{paste, paste-zero}
 use Rattle.tlv_table.proofs.Translated.{fill-turn, fill-end}
 use Rattle.tlv_table.specs.declared.TlvEntry.{TlvEntry}
-use Rattle.initiation_message.specs.Shown.{zeroTlv, places}
+use Rattle.initiation_message.specs.Grammar.{places}
+use Rattle.initiation_message.specs.Shown.{zeroTlv}
 use Rattle.initiation_message_writer.specs.Write.{entryOf}
 use Rattle.initiation_message_writer.proofs.Written.{table-long}
 use Rattle.initiation_message_writer.proofs.table_of.Statement.{statement}

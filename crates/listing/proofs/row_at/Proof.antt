@@ -60,7 +60,7 @@ returns-2 : tie.Need-returns-2
 returns-2 c = row-refused (now (c .before .before .before .before .before .before .before .before .args .s)) (c .before .before .before .before .before .before .before .before .args .at) (c .before .before .before .before .before .if1 .left) (c .before .before .refusal .given .0 .0) (sym (c .before .before .before .before .split-message .ensures) ∙ c .before .before .refusal .given .1)
 
 returns-3 : tie.Need-returns-3
-returns-3 c = row-message (now (c .before .before .before .before .before .before .before .before .before .before .before .before .args .s)) (c .before .before .before .before .before .before .before .before .before .before .before .before .args .at) (c .before .before .before .before .before .before .before .before .before .if1 .left) (c .before .before .before .before .before .before .header .given .0 .0) (c .before .before .before .before .before .before .header .given .0 .1 .0) (sym (c .before .before .before .before .before .before .before .before .split-message .ensures) ∙ c .before .before .before .before .before .before .header .given .1) _ (c .before .before .before .before .part .ensures) _ _ (c .before .kind-of .ensures) (c .before .before .answer-of .ensures)
+returns-3 c = row-message (now (c .before .before .before .before .before .before .before .before .before .before .before .before .args .s)) (c .before .before .before .before .before .before .before .before .before .before .before .before .args .at) (c .before .before .before .before .before .before .before .before .before .if1 .left) (c .before .before .before .before .before .before .header .given .0 .0) (c .before .before .before .before .before .before .header .given .0 .1 .0) (sym (c .before .before .before .before .before .before .before .before .split-message .ensures) ∙ c .before .before .before .before .before .before .header .given .1) _ (c .before .before .before .before .part .ensures) _ _ (c .before .kind-of .ensures) (c .before .before .answer-of .ensures .0)
 
 pub row-at-spec : {M : Type 1} → statement M
 row-at-spec =

@@ -1,7 +1,7 @@
 use borrow.Author.Needs.{needs}
 use mathlib.Core.Path.{sym, _∙_}
 use borrow.Author.Tests.{lt-ltb, le-ltb}
-use Rattle.peer_type.proofs.Told.{flag-set, flag-clear}
+use Rattle.peer_type.proofs.Flags.{flag-set, flag-clear}
 use Rattle.openbmp.specs.Read.{afterFlags}
 use Rattle.openbmp.proofs.after_flags.Statement.{statement}
 use Rattle.openbmp.proofs.after_flags.Tie as tie

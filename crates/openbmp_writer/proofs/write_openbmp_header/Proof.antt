@@ -6,7 +6,7 @@ use mathlib.Core.Path.{_≡_, sym, ap, _∙_, subst}
 use mathlib.Core.Bool.{Bool, true}
 use Prim.Native.Nat.{ℕ, _+_, _≤_}
 use lib.ListN.{length}
-use Rattle.layout.proofs.Octets.{array-bytes}
+use Rattle.wire.proofs.Held.{array-bytes}
 use Rattle.writing.specs.Write.{writeAnswer}
 use Rattle.writing.proofs.Answers.{answered, left-alone, wrote, put-there, refused-so}
 use Rattle.openbmp_writer.specs.Write.{bytesOf, writable, frontBytes, timeBytes, Typed}
@@ -16,7 +16,7 @@ use Rattle.openbmp_writer.proofs.write_openbmp_header.Statement.{statem
 use Rattle.openbmp_writer.proofs.write_openbmp_header.Tie as tie
 
 -- The promises speak of every header that is handed to the writer.
-typed : (c : tie.Start) → Typed (c .args .header)
+pub typed : (c : tie.Start) → Typed (c .args .header)
 typed c =
     let address = c .good .0 .1 .1 .1 .1 .1 .1 .1 .1 .1 .1 .1 .0 .1 .1 .0 in
     record {

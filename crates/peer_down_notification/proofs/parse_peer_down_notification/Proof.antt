@@ -5,14 +5,15 @@ use mathlib.Core.Path.{sym, ap, _∙_}
 use Prim.Native.Nat.{_-_}
 use lib.ListN.{length}
 use Rattle.peer_down_notification.specs.Read.{goodOf}
-use Rattle.cursor.proofs.Reading.{Was, was-got, was-cut, told8, tells8}
+use Rattle.cursor.specs.Read.{fromU8}
+use Rattle.cursor.proofs.Reading.{Was, was-got, was-cut, tells8}
 use Rattle.peer_down_notification.proofs.parse_peer_down_notification.Statement.{statement}
 use Rattle.peer_down_notification.proofs.parse_peer_down_notification.Tie as tie
 use Rattle.wire.specs.Number as Number
 use Rattle.peer_down_notification.specs.declared.PeerDownAnswer.{PeerDownAnswer}
 
 was-kind : (c : tie.After-known-told) → Was 1 (now (c .before .before .before .before .before .before .args .s)) 0 (c .before .kind .given .0 .0) (c .before .kind .given .0 .1 .0)
-was-kind c = was-got 1 (now (c .before .before .before .before .before .before .args .s)) 0 (ap told8 (c .before .kind .given .1)) (tells8 _ (c .before .before .before .read-u8 .ensures))
+was-kind c = was-got 1 (now (c .before .before .before .before .before .before .args .s)) 0 (ap fromU8 (c .before .kind .given .1)) (tells8 _ (c .before .before .before .read-u8 .ensures))
 
 refused-requires : tie.Need-refused-requires
 refused-requires c κs = search needs
@@ -34,7 +35,7 @@ cut-at-requires c κs = search needs
 
 returns-2 : tie.Need-returns-2
 returns-2 c =
-    let h = was-cut 1 (now (c .before .before .before .before .before .before .args .s)) 0 (ap told8 (c .before .enum-told .given .1)) (tells8 _ (c .before .before .before .read-u8 .ensures)) in
+    let h = was-cut 1 (now (c .before .before .before .before .before .before .args .s)) 0 (ap fromU8 (c .before .enum-told .given .1)) (tells8 _ (c .before .before .before .read-u8 .ensures)) in
     ap PeerDownAnswer.Refused (c .cut-at .ensures) ∙ sym (rw (le-ltb Number.limit (length (now (c .before .before .before .before .before .before .args .s))) (c .before .before .before .before .if1 .left), lt-leb 1 (length (now (c .before .before .before .before .before .before .args .s)) - 0) h))
 
 refused-requires-2 : tie.Need-refused-requires-2

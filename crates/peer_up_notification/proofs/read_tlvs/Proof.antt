@@ -7,7 +7,8 @@ use lib.ListN.{length}
 use native.Mathlib.Nat.{sub-zero}
 use Rattle.wire.specs.Walk.{Out, readFrom}
 use Rattle.wire.proofs.Walk.{TurnTo, onwards}
-use Rattle.peer_up_notification.specs.Shown.{places, refusedAnswer}
+use Rattle.peer_up_notification.specs.Grammar.{places}
+use Rattle.peer_up_notification.specs.Shown.{refusedAnswer}
 use Rattle.peer_up_notification.specs.Read.{kit, withTlvs}
 use Rattle.peer_up_notification.specs.declared.PeerUpNotificationTlv.{PeerUpNotificationTlv}
 use Rattle.peer_up_notification.proofs.Laws.{takes, refuses, onward, ends-well}

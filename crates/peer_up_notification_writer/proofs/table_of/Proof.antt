@@ -8,7 +8,8 @@ use lib.ListN.{length}
 use lib.Seq.{paste, paste-zero}
 use Rattle.tlv_table.proofs.Translated.{fill-turn, fill-end}
 use Rattle.tlv_table.specs.declared.TlvEntry.{TlvEntry}
-use Rattle.peer_up_notification.specs.Shown.{zeroTlv, places}
+use Rattle.peer_up_notification.specs.Grammar.{places}
+use Rattle.peer_up_notification.specs.Shown.{zeroTlv}
 use Rattle.peer_up_notification_writer.specs.Write.{entryOf}
 use Rattle.peer_up_notification.proofs.Laws.{table-long}
 use Rattle.peer_up_notification_writer.proofs.table_of.Statement.{statement}

@@ -3,15 +3,15 @@ use native.Mathlib.Omega.{arith}
 use denote.Ref.{now}
 use mathlib.Core.Path.{sym, _∙_}
 use Rattle.wire.specs.Bytes.{Bytes}
-use Rattle.layout.proofs.Octets.{array-bytes}
+use Rattle.wire.proofs.Held.{slice-bytes, array-bytes}
 use Rattle.peer_up_notification_writer.specs.Write.{Typed}
 use Rattle.peer_up_notification.proofs.Laws.{table-long}
-use Rattle.peer_up_notification_writer.proofs.Written.{front-of, slice-bytes, answered-so, refused-so, front-was, put-so}
+use Rattle.peer_up_notification_writer.proofs.Written.{front-of, answered-so, refused-so, front-was, put-so}
 use Rattle.peer_up_notification_writer.proofs.write_peer_up_notification.Statement.{statement}
 use Rattle.peer_up_notification_writer.proofs.write_peer_up_notification.Tie as tie
 
 -- The promises speak of every record that is handed to the writer.
-typed : (c : tie.Start) → Typed (c .args .message)
+pub typed : (c : tie.Start) → Typed (c .args .message)
 typed c =
     let octets = c .good .0 .1 .1 .0 .1 .1 .0 in
     record {

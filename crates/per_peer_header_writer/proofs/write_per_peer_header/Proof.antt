@@ -11,10 +11,10 @@ use Rattle.writing.specs.Write.{writeAnswer}
 use Rattle.writing.proofs.Answers.{answered, left-alone, wrote, put-there}
 use Rattle.per_peer_header_writer.proofs.write_per_peer_header.Statement.{statement}
 use Rattle.per_peer_header_writer.proofs.write_per_peer_header.Tie as tie
-use Rattle.layout.proofs.Octets.{array-bytes}
+use Rattle.wire.proofs.Held.{array-bytes}
 
 -- The promises speak of every header that is handed to the writer.
-typed : (c : tie.Start) → Typed (c .args .header)
+pub typed : (c : tie.Start) → Typed (c .args .header)
 typed c =
     let address = c .good .0 .1 .1 .1 .1 .1 .0 .1 .1 .0 in
     record {

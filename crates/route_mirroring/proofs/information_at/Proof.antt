@@ -4,13 +4,14 @@ use mathlib.Core.Path.{_≡_, sym, ap, _∙_}
 use lib.ListN.{drop}
 use Rattle.route_mirroring.proofs.Steps.{short-at, unknown-at, information-there}
 use Rattle.wire.specs.Bytes.{numAt}
-use Rattle.cursor.proofs.Reading.{Was, was-got, was-cut, was-in, told16, tells16}
+use Rattle.cursor.specs.Read.{fromU16}
+use Rattle.cursor.proofs.Reading.{Was, was-got, was-cut, was-in, tells16}
 use Rattle.route_mirroring.proofs.information_at.Statement.{statement}
 use Rattle.route_mirroring.proofs.information_at.Tie as tie
 use Rattle.route_mirroring.specs.declared.Step.the-variants.{Bad}
 
 was-code : (c : tie.After-known-told) → Was 2 (now (c .before .before .before .before .before .args .s)) (c .before .before .before .before .before .args .value .at) (c .before .code .given .0 .0) (c .before .code .given .0 .1 .0)
-was-code c = was-got 2 (now (c .before .before .before .before .before .args .s)) (c .before .before .before .before .before .args .value .at) (ap told16 (c .before .code .given .1)) (tells16 _ (c .before .before .before .read-u16 .ensures))
+was-code c = was-got 2 (now (c .before .before .before .before .before .args .s)) (c .before .before .before .before .before .args .value .at) (ap fromU16 (c .before .code .given .1)) (tells16 _ (c .before .before .before .read-u16 .ensures))
 
 code-is : (c : tie.After-known-told) → numAt 2 (drop (c .before .before .before .before .before .args .at) (now (c .before .before .before .before .before .args .s))) 4 ≡ c .before .code .given .0 .0
 code-is c = was-in (c .before .before .before .before .before .args .at) 4 (c .before .before .before .before .before .pre .1) (was-code c)
@@ -29,7 +30,7 @@ cut-at-requires c κs = search needs
 
 returns : tie.Need-returns
 returns c =
-    let h = was-cut 2 (now (c .before .before .before .before .before .args .s)) (c .before .before .before .before .before .args .value .at) (ap told16 (c .before .enum-told .given .1)) (tells16 _ (c .before .before .before .read-u16 .ensures)) in
+    let h = was-cut 2 (now (c .before .before .before .before .before .args .s)) (c .before .before .before .before .before .args .value .at) (ap fromU16 (c .before .enum-told .given .1)) (tells16 _ (c .before .before .before .read-u16 .ensures)) in
     ap Bad (c .cut-at .ensures) ∙ sym (short-at (now (c .before .before .before .before .before .args .s)) (c .before .before .before .before .before .args .at) (c .before .before .before .before .before .args .size) (c .before .before .before .before .before .pre .0) (c .before .before .before .before .before .args .value .at) (c .before .before .before .before .before .pre .1) h)
 
 refusal-at-requires : tie.Need-refusal-at-requires

@@ -7,7 +7,8 @@ use Prim.Native.Nat.{_-_, _≤_}
 use lib.ListN.{length, drop}
 use native.Mathlib.Nat.{sub-zero}
 use Rattle.route_mirroring.specs.Read.{step, kit, answer, readMirroring}
-use Rattle.route_mirroring.specs.Shown.{places, zeroTable, refusedAnswer}
+use Rattle.route_mirroring.specs.Grammar.{places}
+use Rattle.route_mirroring.specs.Shown.{zeroTable, refusedAnswer}
 use Rattle.route_mirroring.proofs.Laws.{takes, refuses, onward}
 use Rattle.route_mirroring.proofs.Steps.{was-stop}
 use Rattle.wire.proofs.Walk.{resume-stop, onwards, TurnTo}

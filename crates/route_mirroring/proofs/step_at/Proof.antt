@@ -7,13 +7,14 @@ use lib.ListN.{drop}
 use native.Mathlib.Nat.{add-zero}
 use Rattle.route_mirroring.proofs.Steps.{brief-at, strange-at, message-at, information-at}
 use Rattle.wire.specs.Bytes.{numAt}
-use Rattle.cursor.proofs.Reading.{Was, was-got, was-cut, was-in, told16, tells16}
+use Rattle.cursor.specs.Read.{fromU16}
+use Rattle.cursor.proofs.Reading.{Was, was-got, was-cut, was-in, tells16}
 use Rattle.route_mirroring.proofs.step_at.Statement.{statement}
 use Rattle.route_mirroring.proofs.step_at.Tie as tie
 use Rattle.route_mirroring.specs.declared.Step.the-variants.{Bad}
 
 was-kind : (c : tie.After-known-told) → Was 2 (now (c .before .before .before .before .before .before .before .args .s)) (c .before .before .before .before .before .before .before .args .at) (c .before .kind .given .0 .0) (c .before .kind .given .0 .1 .0)
-was-kind c = was-got 2 (now (c .before .before .before .before .before .before .before .args .s)) (c .before .before .before .before .before .before .before .args .at) (ap told16 (c .before .kind .given .1)) (tells16 _ (c .before .before .before .read-u16 .ensures))
+was-kind c = was-got 2 (now (c .before .before .before .before .before .before .before .args .s)) (c .before .before .before .before .before .before .before .args .at) (ap fromU16 (c .before .kind .given .1)) (tells16 _ (c .before .before .before .read-u16 .ensures))
 
 kind-is : (c : tie.After-known-told) → numAt 2 (drop (c .before .before .before .before .before .before .before .args .at) (now (c .before .before .before .before .before .before .before .args .s))) 0 ≡ c .before .kind .given .0 .0
 kind-is c = was-in (c .before .before .before .before .before .before .before .args .at) 0 (sym (add-zero (c .before .before .before .before .before .before .before .args .at))) (was-kind c)
@@ -22,7 +23,7 @@ kind-is c = was-in (c .before .before .before .before .before .before .before .a
 asked : (c : tie.After-known-told2) → (c .before .size .given .0 .0 ≡ numAt 2 (drop (c .before .before .before .before .before .before .before .before .before .before .before .before .args .at) (now (c .before .before .before .before .before .before .before .before .before .before .before .before .args .s))) 2) × (c .before .size .given .0 .1 .0 .at ≡ c .before .before .before .before .before .before .before .before .before .before .before .before .args .at + 4)
 asked c =
     let a = was-kind (c .before .before .before .before .before) in
-    let b = was-got 2 (now (c .before .before .before .before .before .before .before .before .before .before .before .before .args .s)) (c .before .before .before .before .before .before .kind .given .0 .1 .0 .at) (ap told16 (c .before .size .given .1)) (tells16 _ (c .before .before .before .read-u162 .ensures)) in
+    let b = was-got 2 (now (c .before .before .before .before .before .before .before .before .before .before .before .before .args .s)) (c .before .before .before .before .before .before .kind .given .0 .1 .0 .at) (ap fromU16 (c .before .size .given .1)) (tells16 _ (c .before .before .before .read-u162 .ensures)) in
     (sym (was-in (c .before .before .before .before .before .before .before .before .before .before .before .before .args .at) 2 (a .next) b), omega (arith, a .next, b .next))
 
 left-requires : tie.Need-left-requires
@@ -41,7 +42,7 @@ enum-told : tie.Need-enum-told
 enum-told c = search needs
 
 returns-2 : tie.Need-returns-2
-returns-2 c = let h = was-cut 2 (now (c .before .before .before .before .before .before .args .s)) (c .before .before .before .before .before .before .args .at) (ap told16 (c .enum-told .given .1)) (tells16 _ (c .before .before .read-u16 .ensures)) in absurd (omega arith)
+returns-2 c = let h = was-cut 2 (now (c .before .before .before .before .before .before .args .s)) (c .before .before .before .before .before .before .args .at) (ap fromU16 (c .enum-told .given .1)) (tells16 _ (c .before .before .read-u16 .ensures)) in absurd (omega arith)
 
 refusal-at-requires : tie.Need-refusal-at-requires
 refusal-at-requires c κs = search needs
@@ -61,7 +62,7 @@ enum-told-2 c = search needs
 returns-4 : tie.Need-returns-4
 returns-4 c =
     let w = was-kind (c .before .before .before .before) in
-    let h = was-cut 2 (now (c .before .before .before .before .before .before .before .before .before .before .before .args .s)) (c .before .before .before .before .before .kind .given .0 .1 .0 .at) (ap told16 (c .enum-told2 .given .1)) (tells16 _ (c .before .before .read-u162 .ensures)) in absurd (omega arith)
+    let h = was-cut 2 (now (c .before .before .before .before .before .before .before .before .before .before .before .args .s)) (c .before .before .before .before .before .kind .given .0 .1 .0 .at) (ap fromU16 (c .enum-told2 .given .1)) (tells16 _ (c .before .before .read-u162 .ensures)) in absurd (omega arith)
 
 message-at-requires : tie.Need-message-at-requires
 message-at-requires c κs = asked (c .before)

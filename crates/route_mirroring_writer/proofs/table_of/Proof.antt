@@ -8,7 +8,8 @@ use lib.ListN.{length}
 use lib.Seq.{paste, paste-zero}
 use Rattle.tlv_table.proofs.Translated.{fill-turn, fill-end}
 use Rattle.tlv_table.specs.declared.TlvEntry.{TlvEntry}
-use Rattle.route_mirroring.specs.Shown.{zeroTlv, places}
+use Rattle.route_mirroring.specs.Grammar.{places}
+use Rattle.route_mirroring.specs.Shown.{zeroTlv}
 use Rattle.route_mirroring_writer.specs.Write.{entryOf}
 use Rattle.route_mirroring_writer.proofs.Written.{table-long}
 use Rattle.route_mirroring_writer.proofs.table_of.Statement.{statement}

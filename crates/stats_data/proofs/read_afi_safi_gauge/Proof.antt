@@ -5,19 +5,20 @@ use mathlib.Core.Path.{_≡_, ap, _∙_}
 use Prim.Native.Nat.{_+_}
 use Rattle.stats_data.proofs.Values.{data-good, data-cut}
 use Rattle.wire.specs.Bytes.{numAt}
-use Rattle.cursor.proofs.Reading.{Was, was-got, was-cut, told8, told16, told64, tells8, tells16, tells64}
+use Rattle.cursor.specs.Read.{fromU8, fromU16, fromU64}
+use Rattle.cursor.proofs.Reading.{Was, was-got, was-cut, tells8, tells16, tells64}
 use Rattle.stats_data.proofs.read_afi_safi_gauge.Statement.{statement}
 use Rattle.stats_data.proofs.read_afi_safi_gauge.Tie as tie
 use Rattle.stats_data.specs.declared.StatsData.the-variants.{AfiSafiGauge}
 
 was-afi : (c : tie.After-known-told) → Was 2 (now (c .before .before .before .before .before .args .s)) (c .before .before .before .before .before .args .start .at) (c .before .afi .given .0 .0) (c .before .afi .given .0 .1 .0)
-was-afi c = was-got 2 (now (c .before .before .before .before .before .args .s)) (c .before .before .before .before .before .args .start .at) (ap told16 (c .before .afi .given .1)) (tells16 _ (c .before .before .before .read-u16 .ensures))
+was-afi c = was-got 2 (now (c .before .before .before .before .before .args .s)) (c .before .before .before .before .before .args .start .at) (ap fromU16 (c .before .afi .given .1)) (tells16 _ (c .before .before .before .read-u16 .ensures))
 
 was-safi : (c : tie.After-known-told2) → Was 1 (now (c .before .before .before .before .before .before .before .before .before .args .s)) (c .before .before .before .before .before .afi .given .0 .1 .0 .at) (c .before .safi .given .0 .0) (c .before .safi .given .0 .1 .0)
-was-safi c = was-got 1 (now (c .before .before .before .before .before .before .before .before .before .args .s)) (c .before .before .before .before .before .afi .given .0 .1 .0 .at) (ap told8 (c .before .safi .given .1)) (tells8 _ (c .before .before .before .read-u8 .ensures))
+was-safi c = was-got 1 (now (c .before .before .before .before .before .before .before .before .before .args .s)) (c .before .before .before .before .before .afi .given .0 .1 .0 .at) (ap fromU8 (c .before .safi .given .1)) (tells8 _ (c .before .before .before .read-u8 .ensures))
 
 was-n : (c : tie.After-known-told3) → Was 8 (now (c .before .before .before .before .before .before .before .before .before .before .before .before .before .args .s)) (c .before .before .before .before .before .safi .given .0 .1 .0 .at) (c .before .n .given .0 .0) (c .before .n .given .0 .1 .0)
-was-n c = was-got 8 (now (c .before .before .before .before .before .before .before .before .before .before .before .before .before .args .s)) (c .before .before .before .before .before .safi .given .0 .1 .0 .at) (ap told64 (c .before .n .given .1)) (tells64 _ (c .before .before .before .read-u64 .ensures))
+was-n c = was-got 8 (now (c .before .before .before .before .before .before .before .before .before .before .before .before .before .args .s)) (c .before .before .before .before .before .safi .given .0 .1 .0 .at) (ap fromU64 (c .before .n .given .1)) (tells64 _ (c .before .before .before .read-u64 .ensures))
 
 read-u16-requires : tie.Need-read-u16-requires
 read-u16-requires c κs = search needs
@@ -33,7 +34,7 @@ cut-at-requires c κs = search needs
 
 returns : tie.Need-returns
 returns c =
-    let h = was-cut 2 (now (c .before .before .before .before .before .args .s)) (c .before .before .before .before .before .args .start .at) (ap told16 (c .before .enum-told .given .1)) (tells16 _ (c .before .before .before .read-u16 .ensures)) in
+    let h = was-cut 2 (now (c .before .before .before .before .before .args .s)) (c .before .before .before .before .before .args .start .at) (ap fromU16 (c .before .enum-told .given .1)) (tells16 _ (c .before .before .before .read-u16 .ensures)) in
     data-cut 11 (now (c .before .before .before .before .before .args .s)) (c .before .before .before .before .before .args .start .at) _ _ (omega arith) (c .cut-at .ensures)
 
 read-u8-requires : tie.Need-read-u8-requires
@@ -51,7 +52,7 @@ cut-at-requires-2 c κs = search needs
 returns-2 : tie.Need-returns-2
 returns-2 c =
     let a = was-afi (c .before .before .before .before) in
-    let h = was-cut 1 (now (c .before .before .before .before .before .before .before .before .before .args .s)) (c .before .before .before .before .before .afi .given .0 .1 .0 .at) (ap told8 (c .before .enum-told2 .given .1)) (tells8 _ (c .before .before .before .read-u8 .ensures)) in
+    let h = was-cut 1 (now (c .before .before .before .before .before .before .before .before .before .args .s)) (c .before .before .before .before .before .afi .given .0 .1 .0 .at) (ap fromU8 (c .before .enum-told2 .given .1)) (tells8 _ (c .before .before .before .read-u8 .ensures)) in
     data-cut 11 (now (c .before .before .before .before .before .before .before .before .before .args .s)) (c .before .before .before .before .before .before .before .before .before .args .start .at) _ _ (omega arith) (c .cut-at2 .ensures)
 
 read-u64-requires : tie.Need-read-u64-requires
@@ -70,7 +71,7 @@ returns-3 : tie.Need-returns-3
 returns-3 c =
     let a = was-afi (c .before .before .before .before .before .before .before .before) in
     let b = was-safi (c .before .before .before .before) in
-    let h = was-cut 8 (now (c .before .before .before .before .before .before .before .before .before .before .before .before .before .args .s)) (c .before .before .before .before .before .safi .given .0 .1 .0 .at) (ap told64 (c .before .enum-told3 .given .1)) (tells64 _ (c .before .before .before .read-u64 .ensures)) in
+    let h = was-cut 8 (now (c .before .before .before .before .before .before .before .before .before .before .before .before .before .args .s)) (c .before .before .before .before .before .safi .given .0 .1 .0 .at) (ap fromU64 (c .before .enum-told3 .given .1)) (tells64 _ (c .before .before .before .read-u64 .ensures)) in
     data-cut 11 (now (c .before .before .before .before .before .before .before .before .before .before .before .before .before .args .s)) (c .before .before .before .before .before .before .before .before .before .before .before .before .before .args .start .at) _ _ (omega arith) (c .cut-at3 .ensures)
 
 returns-4 : tie.Need-returns-4

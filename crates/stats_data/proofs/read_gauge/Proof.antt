@@ -2,7 +2,8 @@ use borrow.Author.Needs.{needs}
 use denote.Ref.{now}
 use mathlib.Core.Path.{ap}
 use Rattle.stats_data.proofs.Values.{data-good, data-cut}
-use Rattle.cursor.proofs.Reading.{was-got, was-cut, told64, tells64}
+use Rattle.cursor.specs.Read.{fromU64}
+use Rattle.cursor.proofs.Reading.{was-got, was-cut, tells64}
 use Rattle.stats_data.proofs.read_gauge.Statement.{statement}
 use Rattle.stats_data.proofs.read_gauge.Tie as tie
 use Rattle.stats_data.specs.declared.StatsData.the-variants.{Gauge}
@@ -21,12 +22,12 @@ cut-at-requires c κs = search needs
 
 returns : tie.Need-returns
 returns c =
-    let h = was-cut 8 (now (c .before .before .before .before .before .args .s)) (c .before .before .before .before .before .args .start .at) (ap told64 (c .before .enum-told .given .1)) (tells64 _ (c .before .before .before .read-u64 .ensures)) in
+    let h = was-cut 8 (now (c .before .before .before .before .before .args .s)) (c .before .before .before .before .before .args .start .at) (ap fromU64 (c .before .enum-told .given .1)) (tells64 _ (c .before .before .before .read-u64 .ensures)) in
     data-cut 8 (now (c .before .before .before .before .before .args .s)) (c .before .before .before .before .before .args .start .at) _ _ h (c .cut-at .ensures)
 
 returns-2 : tie.Need-returns-2
 returns-2 c =
-    let w = was-got 8 (now (c .before .before .before .before .before .args .s)) (c .before .before .before .before .before .args .start .at) (ap told64 (c .before .n .given .1)) (tells64 _ (c .before .before .before .read-u64 .ensures)) in
+    let w = was-got 8 (now (c .before .before .before .before .before .args .s)) (c .before .before .before .before .before .args .start .at) (ap fromU64 (c .before .n .given .1)) (tells64 _ (c .before .before .before .read-u64 .ensures)) in
     data-good 8 (now (c .before .before .before .before .before .args .s)) (c .before .before .before .before .before .args .start .at) _ _ _ (w .left) (ap Gauge (w .number)) (w .next)
 
 pub read-gauge-spec : {M : Type 1} → statement M

@@ -5,7 +5,8 @@ use mathlib.Core.Path.{sym, ap, _∙_}
 use lib.ListN.{length}
 use Rattle.stats_report.specs.Shown.{refusedAnswer}
 use Rattle.stats_report.proofs.Laws.{no-count, counted}
-use Rattle.cursor.proofs.Reading.{was-got, was-cut, told32, tells32}
+use Rattle.cursor.specs.Read.{fromU32}
+use Rattle.cursor.proofs.Reading.{was-got, was-cut, tells32}
 use Rattle.stats_report.proofs.parse_stats_report.Statement.{statement}
 use Rattle.stats_report.proofs.parse_stats_report.Tie as tie
 use Rattle.wire.specs.Number as Number
@@ -33,7 +34,7 @@ refused-requires c κs = search needs
 
 returns-2 : tie.Need-returns-2
 returns-2 c =
-    let h = was-cut 4 (now (c .before .before .before .before .before .before .before .args .s)) 0 (ap told32 (c .before .before .enum-told .given .1)) (tells32 _ (c .before .before .before .before .read-u32 .ensures)) in
+    let h = was-cut 4 (now (c .before .before .before .before .before .before .before .args .s)) 0 (ap fromU32 (c .before .before .enum-told .given .1)) (tells32 _ (c .before .before .before .before .read-u32 .ensures)) in
     c .refused .ensures ∙ ap refusedAnswer (c .before .cut-at .ensures) ∙ sym (no-count (now (c .before .before .before .before .before .before .before .args .s)) (c .before .before .before .before .before .if1 .left) h)
 
 read-counters-requires : tie.Need-read-counters-requires
@@ -41,7 +42,7 @@ read-counters-requires c κs = search needs
 
 returns-3 : tie.Need-returns-3
 returns-3 c =
-    let w = was-got 4 (now (c .before .before .before .before .before .before .before .args .s)) 0 (ap told32 (c .before .before .stats-count .given .1)) (tells32 _ (c .before .before .before .before .read-u32 .ensures)) in
+    let w = was-got 4 (now (c .before .before .before .before .before .before .before .args .s)) 0 (ap fromU32 (c .before .before .stats-count .given .1)) (tells32 _ (c .before .before .before .before .read-u32 .ensures)) in
     c .read-counters .ensures ∙ sym (counted (now (c .before .before .before .before .before .before .before .args .s)) (c .before .before .before .before .before .if1 .left) _ _ w)
 
 pub parse-stats-report-spec : {M : Type 1} → statement M

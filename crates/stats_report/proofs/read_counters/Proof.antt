@@ -5,7 +5,7 @@ use mathlib.Core.Path.{_≡_, sym, _∙_}
 use Prim.Native.Nat.{_-_, _≤_}
 use native.Mathlib.Nat.{sub-zero}
 use Rattle.stats_report.specs.Read.{kit, answer}
-use Rattle.stats_report.specs.Shown.{places}
+use Rattle.stats_report.specs.Grammar.{places}
 use Rattle.stats_report.proofs.Laws.{refuses, Onward, onward}
 use Rattle.wire.specs.Walk.{resume, readFrom}
 use Rattle.wire.proofs.Walk.{resume-done}

@@ -7,17 +7,18 @@ use lib.ListN.{length, drop}
 use native.Mathlib.Nat.{add-zero}
 use Rattle.stats_report.proofs.Steps.{no-type-at, no-length-at, no-value-at, whole-at}
 use Rattle.wire.specs.Bytes.{numAt}
-use Rattle.cursor.proofs.Reading.{Was, was-got, was-cut, was-in, told16, tells16}
+use Rattle.cursor.specs.Read.{fromU16}
+use Rattle.cursor.proofs.Reading.{Was, was-got, was-cut, was-in, tells16}
 use Rattle.stats_data.proofs.Values.{no-data}
 use Rattle.stats_report.proofs.step_at.Statement.{statement}
 use Rattle.stats_report.proofs.step_at.Tie as tie
 use Rattle.stats_report.specs.declared.Step.the-variants.{Bad}
 
 was-kind : (c : tie.After-known-told) → Was 2 (now (c .before .before .before .before .before .args .s)) (c .before .before .before .before .before .args .at) (c .before .kind .given .0 .0) (c .before .kind .given .0 .1 .0)
-was-kind c = was-got 2 (now (c .before .before .before .before .before .args .s)) (c .before .before .before .before .before .args .at) (ap told16 (c .before .kind .given .1)) (tells16 _ (c .before .before .before .read-u16 .ensures))
+was-kind c = was-got 2 (now (c .before .before .before .before .before .args .s)) (c .before .before .before .before .before .args .at) (ap fromU16 (c .before .kind .given .1)) (tells16 _ (c .before .before .before .read-u16 .ensures))
 
 was-size : (c : tie.After-known-told2) → Was 2 (now (c .before .before .before .before .before .before .before .before .before .args .s)) (c .before .before .before .before .before .kind .given .0 .1 .0 .at) (c .before .size .given .0 .0) (c .before .size .given .0 .1 .0)
-was-size c = was-got 2 (now (c .before .before .before .before .before .before .before .before .before .args .s)) (c .before .before .before .before .before .kind .given .0 .1 .0 .at) (ap told16 (c .before .size .given .1)) (tells16 _ (c .before .before .before .read-u162 .ensures))
+was-size c = was-got 2 (now (c .before .before .before .before .before .before .before .before .before .args .s)) (c .before .before .before .before .before .kind .given .0 .1 .0 .at) (ap fromU16 (c .before .size .given .1)) (tells16 _ (c .before .before .before .read-u162 .ensures))
 
 place-is : (c : tie.After-known-told2) → c .before .size .given .0 .1 .0 .at ≡ c .before .before .before .before .before .before .before .before .before .args .at + 4
 place-is c = let a = was-kind (c .before .before .before .before) in let b = was-size c in omega arith
@@ -45,7 +46,7 @@ cut-at-requires c κs = search needs
 
 returns : tie.Need-returns
 returns c =
-    let h = was-cut 2 (now (c .before .before .before .before .before .args .s)) (c .before .before .before .before .before .args .at) (ap told16 (c .before .enum-told .given .1)) (tells16 _ (c .before .before .before .read-u16 .ensures)) in
+    let h = was-cut 2 (now (c .before .before .before .before .before .args .s)) (c .before .before .before .before .before .args .at) (ap fromU16 (c .before .enum-told .given .1)) (tells16 _ (c .before .before .before .read-u16 .ensures)) in
     ap Bad (c .cut-at .ensures) ∙ sym (no-type-at _ _ h)
 
 read-u16-requires-2 : tie.Need-read-u16-requires-2
@@ -63,7 +64,7 @@ cut-at-requires-2 c κs = search needs
 returns-2 : tie.Need-returns-2
 returns-2 c =
     let w = was-kind (c .before .before .before .before) in
-    let h = was-cut 2 (now (c .before .before .before .before .before .before .before .before .before .args .s)) (c .before .before .before .before .before .kind .given .0 .1 .0 .at) (ap told16 (c .before .enum-told2 .given .1)) (tells16 _ (c .before .before .before .read-u162 .ensures)) in
+    let h = was-cut 2 (now (c .before .before .before .before .before .before .before .before .before .args .s)) (c .before .before .before .before .before .kind .given .0 .1 .0 .at) (ap fromU16 (c .before .enum-told2 .given .1)) (tells16 _ (c .before .before .before .read-u162 .ensures)) in
     ap Bad (c .cut-at2 .ensures) ∙ sym (no-length-at _ _ _ (w .next) (w .left) h)
 
 read-data-requires : tie.Need-read-data-requires

@@ -5,7 +5,8 @@ use mathlib.Core.Path.{_∙_}
 use Prim.Native.Nat.{ℕ, _-_, _≤_}
 use mathlib.Core.List.{List}
 use lib.ListN.{drop, getD}
-use Rattle.stats_report.specs.Shown.{zeroCounter, places}
+use Rattle.stats_report.specs.Grammar.{places}
+use Rattle.stats_report.specs.Shown.{zeroCounter}
 use Rattle.stats_report_writer.specs.Write.{writer, kept, bytesOf}
 use Rattle.stats_report_writer.proofs.Written.{table-long, bodied, writes-of, Headed}
 use Rattle.wire.specs.Bytes.{be}

@@ -7,7 +7,8 @@ use Prim.Native.Nat.{_-_, _≤_}
 use lib.ListN.{length, drop}
 use native.Mathlib.Nat.{sub-zero}
 use Rattle.termination_message.specs.Read.{kit, answer, readTermination}
-use Rattle.termination_message.specs.Shown.{places, zeroTable, refusedAnswer}
+use Rattle.termination_message.specs.Grammar.{places}
+use Rattle.termination_message.specs.Shown.{zeroTable, refusedAnswer}
 use Rattle.termination_message.proofs.Laws.{takes, amiss, onward}
 use Rattle.termination_message.proofs.Steps.{was-stop}
 use Rattle.wire.proofs.Walk.{resume-stop, onwards, TurnTo}

@@ -7,21 +7,21 @@ use lib.ListN.{drop}
 use native.Mathlib.Nat.{add-zero}
 use Rattle.termination_message.proofs.Steps.{brief-at, strange-at, beyond-at, string-at, lacking-at, unknown-at, known-at}
 use Rattle.wire.specs.Bytes.{numAt}
-use Rattle.cursor.specs.Read.{cursor}
-use Rattle.cursor.proofs.Reading.{Was, was-got, was-cut, was-in, told16, tells16}
+use Rattle.cursor.specs.Read.{cursor, fromU16}
+use Rattle.cursor.proofs.Reading.{Was, was-got, was-cut, was-in, tells16}
 use Rattle.termination_message.proofs.step_at.Statement.{statement}
 use Rattle.termination_message.proofs.step_at.Tie as tie
 use Rattle.termination_message.specs.declared.TerminationTlv.{TerminationTlv}
 use Rattle.termination_message.specs.declared.Step.the-variants.{Bad, Whole}
 
 was-kind : (c : tie.After-known-told) → Was 2 (now (c .before .before .before .before .before .before .before .args .s)) (c .before .before .before .before .before .before .before .args .at) (c .before .kind .given .0 .0) (c .before .kind .given .0 .1 .0)
-was-kind c = was-got 2 (now (c .before .before .before .before .before .before .before .args .s)) (c .before .before .before .before .before .before .before .args .at) (ap told16 (c .before .kind .given .1)) (tells16 _ (c .before .before .before .read-u16 .ensures))
+was-kind c = was-got 2 (now (c .before .before .before .before .before .before .before .args .s)) (c .before .before .before .before .before .before .before .args .at) (ap fromU16 (c .before .kind .given .1)) (tells16 _ (c .before .before .before .read-u16 .ensures))
 
 was-size : (c : tie.After-known-told2) → Was 2 (now (c .before .before .before .before .before .before .before .before .before .before .before .args .s)) (c .before .before .before .before .before .kind .given .0 .1 .0 .at) (c .before .size .given .0 .0) (c .before .size .given .0 .1 .0)
-was-size c = was-got 2 (now (c .before .before .before .before .before .before .before .before .before .before .before .args .s)) (c .before .before .before .before .before .kind .given .0 .1 .0 .at) (ap told16 (c .before .size .given .1)) (tells16 _ (c .before .before .before .read-u162 .ensures))
+was-size c = was-got 2 (now (c .before .before .before .before .before .before .before .before .before .before .before .args .s)) (c .before .before .before .before .before .kind .given .0 .1 .0 .at) (ap fromU16 (c .before .size .given .1)) (tells16 _ (c .before .before .before .read-u162 .ensures))
 
 was-code : (c : tie.After-known-told3) → Was 2 (now (c .before .before .before .before .before .before .before .before .before .before .before .before .before .before .before .before .before .before .before .args .s)) (c .before .before .before .before .before .before .before .before .before .size .given .0 .1 .0 .at) (c .before .code .given .0 .0) (c .before .code .given .0 .1 .0)
-was-code c = was-got 2 (now (c .before .before .before .before .before .before .before .before .before .before .before .before .before .before .before .before .before .before .before .args .s)) (c .before .before .before .before .before .before .before .before .before .size .given .0 .1 .0 .at) (ap told16 (c .before .code .given .1)) (tells16 _ (c .before .before .before .read-u163 .ensures))
+was-code c = was-got 2 (now (c .before .before .before .before .before .before .before .before .before .before .before .before .before .before .before .before .before .before .before .args .s)) (c .before .before .before .before .before .before .before .before .before .size .given .0 .1 .0 .at) (ap fromU16 (c .before .code .given .1)) (tells16 _ (c .before .before .before .read-u163 .ensures))
 
 place-is : (c : tie.After-known-told2) → c .before .size .given .0 .1 .0 .at ≡ c .before .before .before .before .before .before .before .before .before .before .before .args .at + 4
 place-is c = let a = was-kind (c .before .before .before .before) in let b = was-size c in omega arith
@@ -51,7 +51,7 @@ enum-told : tie.Need-enum-told
 enum-told c = search needs
 
 returns-2 : tie.Need-returns-2
-returns-2 c = let h = was-cut 2 (now (c .before .before .before .before .before .before .args .s)) (c .before .before .before .before .before .before .args .at) (ap told16 (c .enum-told .given .1)) (tells16 _ (c .before .before .read-u16 .ensures)) in absurd (omega arith)
+returns-2 c = let h = was-cut 2 (now (c .before .before .before .before .before .before .args .s)) (c .before .before .before .before .before .before .args .at) (ap fromU16 (c .enum-told .given .1)) (tells16 _ (c .before .before .read-u16 .ensures)) in absurd (omega arith)
 
 read-u16-requires-2 : tie.Need-read-u16-requires-2
 read-u16-requires-2 c κs = search needs
@@ -65,7 +65,7 @@ enum-told-2 c = search needs
 returns-3 : tie.Need-returns-3
 returns-3 c =
     let w = was-kind (c .before .before .before) in
-    let h = was-cut 2 (now (c .before .before .before .before .before .before .before .before .before .before .args .s)) (c .before .before .before .before .kind .given .0 .1 .0 .at) (ap told16 (c .enum-told2 .given .1)) (tells16 _ (c .before .before .read-u162 .ensures)) in absurd (omega arith)
+    let h = was-cut 2 (now (c .before .before .before .before .before .before .before .before .before .before .args .s)) (c .before .before .before .before .kind .given .0 .1 .0 .at) (ap fromU16 (c .enum-told2 .given .1)) (tells16 _ (c .before .before .read-u162 .ensures)) in absurd (omega arith)
 
 cast-end : tie.Need-cast-end
 cast-end c = search needs
@@ -108,7 +108,7 @@ cut-at-requires c κs = search needs
 returns-7 : tie.Need-returns-7
 returns-7 c =
     let p = place-is (c .before .before .before .before .before .before .before .before) in
-    let h = was-cut 2 (now (c .before .before .before .before .before .before .before .before .before .before .before .before .before .before .before .before .before .before .before .args .s)) (c .before .before .before .before .before .before .before .before .before .size .given .0 .1 .0 .at) (ap told16 (c .before .enum-told3 .given .1)) (tells16 _ (c .before .before .before .read-u163 .ensures)) in
+    let h = was-cut 2 (now (c .before .before .before .before .before .before .before .before .before .before .before .before .before .before .before .before .before .before .before .args .s)) (c .before .before .before .before .before .before .before .before .before .size .given .0 .1 .0 .at) (ap fromU16 (c .before .enum-told3 .given .1)) (tells16 _ (c .before .before .before .read-u163 .ensures)) in
     ap Bad (c .cut-at .ensures) ∙ sym (lacking-at _ _ (omega arith) _ (kind-is (c .before .before .before .before .before .before .before .before .before .before .before .before)) _ (size-is (c .before .before .before .before .before .before .before .before)) _ p (omega arith) (omega arith) h)
 
 fault-requires-2 : tie.Need-fault-requires-2

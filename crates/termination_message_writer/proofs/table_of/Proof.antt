@@ -8,7 +8,8 @@ use lib.ListN.{length}
 use lib.Seq.{paste, paste-zero}
 use Rattle.tlv_table.proofs.Translated.{fill-turn, fill-end}
 use Rattle.tlv_table.specs.declared.TlvEntry.{TlvEntry}
-use Rattle.termination_message.specs.Shown.{zeroTlv, places}
+use Rattle.termination_message.specs.Grammar.{places}
+use Rattle.termination_message.specs.Shown.{zeroTlv}
 use Rattle.termination_message_writer.specs.Write.{entryOf}
 use Rattle.termination_message_writer.proofs.Written.{table-long}
 use Rattle.termination_message_writer.proofs.table_of.Statement.{statement}

@@ -1,4 +1,4 @@
-use Rattle.peer_type.proofs.Told.{flag-set, flag-clear}
+use Rattle.peer_type.proofs.Flags.{flag-set, flag-clear}
 use Rattle.peer_type.proofs.PerPeerFlags.address_family.Statement.{statement}
 use Rattle.peer_type.proofs.PerPeerFlags.address_family.Tie as tie
 

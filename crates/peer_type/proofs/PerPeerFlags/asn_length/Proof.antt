@@ -1,4 +1,4 @@
-use Rattle.peer_type.proofs.Told.{flag-set, flag-clear}
+use Rattle.peer_type.proofs.Flags.{flag-set, flag-clear}
 use Rattle.peer_type.proofs.PerPeerFlags.asn_length.Statement.{statement}
 use Rattle.peer_type.proofs.PerPeerFlags.asn_length.Tie as tie
 

@@ -1,4 +1,4 @@
-use Rattle.peer_type.proofs.Told.{masked}
+use Rattle.peer_type.proofs.Flags.{masked}
 use Rattle.peer_type.proofs.PerPeerFlags.is_adj_rib_out.Statement.{statement}
 use Rattle.peer_type.proofs.PerPeerFlags.is_adj_rib_out.Tie as tie
 

@@ -34,7 +34,7 @@ use Rattle.stats_report.specs.declared.StatCounter.{StatCounter}
 use Rattle.stats_report.specs.declared.StatsAnswer.{StatsAnswer}
 
 -- number, place, stop, tail's start and fields; a value that views show is the list of its bytes
-pub record Told : Type 0 where
+pub record Listed : Type 0 where
   pub number : ℕ
   pub place : ℕ
   pub stop : ℕ
@@ -53,8 +53,8 @@ pub data Reader : Type 0 where
   mirroring : Reader
 
 -- version, length, type
-abbrev pub toldCommon : CommonHeaderAnswer → Told
-toldCommon a =
+abbrev pub listedCommon : CommonHeaderAnswer → Listed
+listedCommon a =
     record {
       number = Common.refusalOf a .number;
       place = Common.refusalOf a .place;
@@ -64,99 +64,99 @@ toldCommon a =
     }
 
 -- the count, and of each record type, length, form (0 counter, 1 gauge, 2 per AFI and SAFI, 3 raw) and what the form has
-abbrev pub toldForm : Value → List (List ℕ) → List (List ℕ)
-toldForm (counter n) l = number 0 ∷ number n ∷ l
-toldForm (gauge n) l = number 1 ∷ number n ∷ l
-toldForm (afi-safi-gauge afi safi n) l = number 2 ∷ number afi ∷ number safi ∷ number n ∷ l
-toldForm (raw b) l = number 3 ∷ b ∷ l
+abbrev pub listedForm : Value → List (List ℕ) → List (List ℕ)
+listedForm (counter n) l = number 0 ∷ number n ∷ l
+listedForm (gauge n) l = number 1 ∷ number n ∷ l
+listedForm (afi-safi-gauge afi safi n) l = number 2 ∷ number afi ∷ number safi ∷ number n ∷ l
+listedForm (raw b) l = number 3 ∷ b ∷ l
 
-abbrev pub toldCounters : List ℕ → List StatCounter → List (List ℕ)
-toldCounters s [] = []
-toldCounters s (t ∷ l) =
-    number (StatsType.kindOf (t .«stat_type»)) ∷ number (t .«stat_len») ∷ toldForm (valueIn s (t .«stat_data»)) (toldCounters s l)
+abbrev pub listedCounters : List ℕ → List StatCounter → List (List ℕ)
+listedCounters s [] = []
+listedCounters s (t ∷ l) =
+    number (StatsType.kindOf (t .«stat_type»)) ∷ number (t .«stat_len») ∷ listedForm (valueIn s (t .«stat_data»)) (listedCounters s l)
 
-abbrev pub toldStatistics : List ℕ → StatsAnswer → Told
-toldStatistics s a =
+abbrev pub listedStatistics : List ℕ → StatsAnswer → Listed
+listedStatistics s a =
     record {
       number = a .refusal .number;
       place = a .refusal .place;
       stop = a .stop;
       tail = a .stop;
-      fields = number (a .report .«stats_count») ∷ toldCounters s (take (a .report .count) (a .report .counters));
+      fields = number (a .report .«stats_count») ∷ listedCounters s (take (a .report .count) (a .report .counters));
     }
 
 -- of each TLV below the count type, length and value
-abbrev pub toldTlvs : List ℕ → List InitiationTlv → List (List ℕ)
-toldTlvs s [] = []
-toldTlvs s (t ∷ l) = number (Initiation.kindOf (t .«info_type»)) ∷ number (t .«info_len») ∷ viewed s (t .info) ∷ toldTlvs s l
+abbrev pub listedTlvs : List ℕ → List InitiationTlv → List (List ℕ)
+listedTlvs s [] = []
+listedTlvs s (t ∷ l) = number (Initiation.kindOf (t .«info_type»)) ∷ number (t .«info_len») ∷ viewed s (t .info) ∷ listedTlvs s l
 
-abbrev pub toldInitiation : List ℕ → InitiationAnswer → Told
-toldInitiation s a =
+abbrev pub listedInitiation : List ℕ → InitiationAnswer → Listed
+listedInitiation s a =
     record {
       number = a .refusal .number;
       place = a .refusal .place;
       stop = a .stop;
       tail = a .tail;
-      fields = toldTlvs s (take (a .message .count) (a .message .tlvs));
+      fields = listedTlvs s (take (a .message .count) (a .message .tlvs));
     }
 
 -- of each TLV below the count type, length, and the string's bytes or the reason's number
-abbrev pub toldEnding : List ℕ → TerminationTlvValue → ℕ → List (List ℕ) → List (List ℕ)
-toldEnding s (TerminationTlvValue.String v) size l = number 0 ∷ number size ∷ viewed s v ∷ l
-toldEnding s (TerminationTlvValue.Reason r) size l = number 1 ∷ number size ∷ number (Termination.codeOf r) ∷ l
+abbrev pub listedEnding : List ℕ → TerminationTlvValue → ℕ → List (List ℕ) → List (List ℕ)
+listedEnding s (TerminationTlvValue.String v) size l = number 0 ∷ number size ∷ viewed s v ∷ l
+listedEnding s (TerminationTlvValue.Reason r) size l = number 1 ∷ number size ∷ number (Termination.codeOf r) ∷ l
 
-abbrev pub toldEndings : List ℕ → List TerminationTlv → List (List ℕ)
-toldEndings s [] = []
-toldEndings s (t ∷ l) = toldEnding s (t .«info_value») (t .«info_len») (toldEndings s l)
+abbrev pub listedEndings : List ℕ → List TerminationTlv → List (List ℕ)
+listedEndings s [] = []
+listedEndings s (t ∷ l) = listedEnding s (t .«info_value») (t .«info_len») (listedEndings s l)
 
-abbrev pub toldTermination : List ℕ → TerminationAnswer → Told
-toldTermination s a =
+abbrev pub listedTermination : List ℕ → TerminationAnswer → Listed
+listedTermination s a =
     record {
       number = a .refusal .number;
       place = a .refusal .place;
       stop = a .stop;
       tail = a .tail;
-      fields = toldEndings s (take (a .message .count) (a .message .tlvs));
+      fields = listedEndings s (take (a .message .count) (a .message .tlvs));
     }
 
 -- the reason, whether there is data (1 or 0), and the data
-abbrev pub toldData : Data → List (List ℕ)
-toldData absent = number 0 ∷ []
-toldData (present b) = number 1 ∷ b ∷ []
+abbrev pub listedData : Data → List (List ℕ)
+listedData absent = number 0 ∷ []
+listedData (present b) = number 1 ∷ b ∷ []
 
-abbrev pub toldPeerDown : List ℕ → PeerDownAnswer → Told
-toldPeerDown s a =
+abbrev pub listedPeerDown : List ℕ → PeerDownAnswer → Listed
+listedPeerDown s a =
     record {
       number = PeerDown.refusalOf a .number;
       place = PeerDown.refusalOf a .place;
       stop = PeerDown.stopOf a;
       tail = PeerDown.stopOf a;
-      fields = number (PeerDown.kindOf (PeerDown.notificationOf a .reason)) ∷ toldData (dataOf s (PeerDown.notificationOf a .«data»));
+      fields = number (PeerDown.kindOf (PeerDown.notificationOf a .reason)) ∷ listedData (dataOf s (PeerDown.notificationOf a .«data»));
     }
 
 -- of each TLV below the count type, length, and the message's bytes or the information's code
-abbrev pub toldValue : List ℕ → RouteMirroringValue → ℕ → List (List ℕ) → List (List ℕ)
-toldValue s (BgpMessage v) size l = number 0 ∷ number size ∷ viewed s v ∷ l
-toldValue s (Information i) size l = number 1 ∷ number size ∷ number (Mirroring.codeOf i) ∷ l
+abbrev pub listedValue : List ℕ → RouteMirroringValue → ℕ → List (List ℕ) → List (List ℕ)
+listedValue s (BgpMessage v) size l = number 0 ∷ number size ∷ viewed s v ∷ l
+listedValue s (Information i) size l = number 1 ∷ number size ∷ number (Mirroring.codeOf i) ∷ l
 
-abbrev pub toldMirrored : List ℕ → List RouteMirroringTlv → List (List ℕ)
-toldMirrored s [] = []
-toldMirrored s (t ∷ l) = toldValue s (t .value) (t .«info_len») (toldMirrored s l)
+abbrev pub listedMirrored : List ℕ → List RouteMirroringTlv → List (List ℕ)
+listedMirrored s [] = []
+listedMirrored s (t ∷ l) = listedValue s (t .value) (t .«info_len») (listedMirrored s l)
 
-abbrev pub toldMirroring : List ℕ → RouteMirroringAnswer → Told
-toldMirroring s a =
+abbrev pub listedMirroring : List ℕ → RouteMirroringAnswer → Listed
+listedMirroring s a =
     record {
       number = a .refusal .number;
       place = a .refusal .place;
       stop = a .stop;
       tail = a .stop;
-      fields = toldMirrored s (take (a .message .count) (a .message .tlvs));
+      fields = listedMirrored s (take (a .message .count) (a .message .tlvs));
     }
 
-abbrev pub told : Reader → List ℕ → Told
-told common s = toldCommon (readCommonHeader s)
-told initiation s = toldInitiation s (readInitiation s)
-told peer-down s = toldPeerDown s (readPeerDown s)
-told mirroring s = toldMirroring s (readMirroring s)
-told termination s = toldTermination s (readTermination s)
-told statistics s = toldStatistics s (readStats s)
+abbrev pub listed : Reader → List ℕ → Listed
+listed common s = listedCommon (readCommonHeader s)
+listed initiation s = listedInitiation s (readInitiation s)
+listed peer-down s = listedPeerDown s (readPeerDown s)
+listed mirroring s = listedMirroring s (readMirroring s)
+listed termination s = listedTermination s (readTermination s)
+listed statistics s = listedStatistics s (readStats s)

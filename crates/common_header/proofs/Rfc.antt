@@ -1,0 +1,28 @@
+-- The header of a message that conforms to RFC 7854 is read, and shown. Assumes nothing.
+use mathlib.Core.Path.{_≡_, refl}
+use mathlib.Core.List.{List, _++_}
+use Prim.Native.Nat.{ℕ, _≤_}
+use lib.ListN.{length}
+use Rattle.wire.specs.Number as Number
+use Rattle.wire.specs.Bytes.{be, Bytes}
+use Rattle.wire.specs.Exactly.{Shows}
+use Rattle.wire.proofs.Bytes.{bytes-append}
+use Rattle.wire.proofs.Exactly.{shows-good}
+use Rattle.common_header.specs.Grammar.{join, Good}
+use Rattle.common_header.specs.Read.{reader}
+use Rattle.common_header.specs.Rfc.{Message, bytes, Conforms, reading}
+use Rattle.common_header.proofs.Promises.{complete}
+
+pub reading-good : (m : Message) → Conforms m → (rest : List ℕ) → Bytes rest → Good (reading m rest)
+reading-good m c rest rest-bytes =
+    record { version-is = refl; length-fits = c .length-fits; kind-known = c .type-known; tail-bytes = bytes-append (c .body-bytes) rest-bytes }
+
+pub reading-joined : (m : Message) (rest : List ℕ) → join (reading m rest) ≡ bytes m ++ rest
+unfolding be
+reading-joined m rest = refl
+
+-- The header of a conforming message is shown, whatever follows the message.
+pub conforming-shown : (m : Message) → Conforms m → (rest : List ℕ) → Bytes rest → length (bytes m ++ rest) ≤ Number.limit
+    → Shows reader (bytes m ++ rest) (reading m rest)
+conforming-shown m c rest rest-bytes limit =
+    shows-good reader complete (reading m rest) (reading-good m c rest rest-bytes) tt (bytes m ++ rest) (reading-joined m rest) limit
