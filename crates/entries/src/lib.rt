@@ -6,13 +6,11 @@ use kinds::Arguments;
 use kinds::Kind;
 use peer_up_notification::PeerUpNotificationTlv;
 use peer_up_notification::PeerUpTlvType;
-use route_mirroring::RouteMirroringInfo;
 use route_mirroring::RouteMirroringTlv;
 use route_mirroring::RouteMirroringValue;
 use stats_data::StatsData;
 use stats_report::StatCounter;
 use stats_type::StatType;
-use termination_message::TerminationReason;
 use termination_message::TerminationTlv;
 use termination_message::TerminationTlvValue;
 use wire::View;
@@ -60,12 +58,11 @@ fn stats_entry(s: &[u8], i: usize) -> Shown
 }
 
 fn counter_entry(i: u64, counter: StatCounter) -> Shown {
-    let stat_type = counter.stat_type;
-    let stat_data = counter.stat_data;
-    let kind = stats_type::kind_of(stat_type) as u64;
+    let stat_type = counter.stat_type();
+    let stat_data = counter.stat_data();
     value_entry(
         i,
-        kind,
+        counter.kind as u64,
         counter.stat_len as u64,
         stat_name(stat_type),
         stat_data,
@@ -124,8 +121,8 @@ fn initiation_entry(s: &[u8], i: usize) -> Shown
 }
 
 fn initiation_tlv(i: u64, tlv: InitiationTlv) -> Shown {
-    let info_type = tlv.info_type;
-    let info = tlv.info;
+    let info_type = tlv.info_type();
+    let info = tlv.info();
     tlv_entry(i, initiation_type(info_type), tlv.info_len as u64, info)
 }
 
@@ -168,27 +165,17 @@ fn termination_entry(s: &[u8], i: usize) -> Shown
 
 fn termination_tlv(i: u64, tlv: TerminationTlv) -> Shown {
     let size = tlv.info_len as u64;
-    let value = tlv.info_value;
+    let value = tlv.info_value();
     match value {
         TerminationTlvValue::String(view) => text_entry(kinds::STRING, i, size, view),
         TerminationTlvValue::Reason(reason) => {
-            forms::of_five(kinds::REASON, 0, i, size, reason_number(reason), 0, 0)
+            forms::of_five(kinds::REASON, 0, i, size, reason.code() as u64, 0, 0)
         }
     }
 }
 
 fn text_entry(form: usize, i: u64, size: u64, view: View) -> Shown {
     forms::of_five(form, 0, i, size, view.place as u64, view.length as u64, 0)
-}
-
-fn reason_number(reason: TerminationReason) -> u64 {
-    match reason {
-        TerminationReason::AdministrativelyClosed => 0,
-        TerminationReason::UnspecifiedReason => 1,
-        TerminationReason::OutOfResources => 2,
-        TerminationReason::RedundantConnection => 3,
-        TerminationReason::PermanentlyAdministrativelyClosed => 4,
-    }
 }
 
 fn mirroring_entry(s: &[u8], i: usize) -> Shown
@@ -202,27 +189,12 @@ fn mirroring_entry(s: &[u8], i: usize) -> Shown
 
 fn mirroring_tlv(i: u64, tlv: RouteMirroringTlv) -> Shown {
     let size = tlv.info_len as u64;
-    let value = tlv.value;
+    let value = tlv.value();
     match value {
         RouteMirroringValue::BgpMessage(view) => text_entry(kinds::BGP_MESSAGE, i, size, view),
         RouteMirroringValue::Information(info) => {
-            forms::of_five(
-                kinds::INFORMATION,
-                0,
-                i,
-                size,
-                information_number(info),
-                0,
-                0,
-            )
+            forms::of_five(kinds::INFORMATION, 0, i, size, info.code() as u64, 0, 0)
         }
-    }
-}
-
-fn information_number(info: RouteMirroringInfo) -> u64 {
-    match info {
-        RouteMirroringInfo::ErroredPdu => 0,
-        RouteMirroringInfo::MessageLost => 1,
     }
 }
 
@@ -238,8 +210,8 @@ fn peer_up_entry(arguments: Arguments, s: &[u8], i: usize) -> Shown
 }
 
 fn peer_up_tlv(i: u64, tlv: PeerUpNotificationTlv) -> Shown {
-    let info_type = tlv.info_type;
-    let info = tlv.info_value;
+    let info_type = tlv.info_type();
+    let info = tlv.info_value();
     tlv_entry(i, peer_up_type(info_type), tlv.info_len as u64, info)
 }
 

@@ -51,6 +51,8 @@ tails =
     }
 
 -- ---- a turn of the reader's loop that finds a TLV
-pub onward : (n at : ℕ) (table : List InitiationTlv) (s : List ℕ) (u : InitiationTlv) (c : Cursor) → n ≤ at → at ≤ length s → stepAt s at ≡ Whole u c
-    → TurnTo kit takes n at table s u (c .at)
-onward n at table s u c few h e = let w = was-whole at u c (drop at s) e in turn-to kit takes n at table s (w .0) u (c .at) few h (w .1) (w .2) (w .3)
+pub onward : (n at : ℕ) (table : List InitiationTlv) (s : List ℕ) (kind size place : ℕ) (c : Cursor) → n ≤ at → at ≤ length s
+    → stepAt s at ≡ Whole kind size place c → TurnTo kit takes n at table s (record { kind = kind; «info_len» = size; place = place }) (c .at)
+onward n at table s kind size place c few h e =
+    let w = was-whole at kind size place c (drop at s) e in
+    turn-to kit takes n at table s (w .0) _ (c .at) few h (w .1) (w .2) (w .3)

@@ -10,6 +10,7 @@ use Rattle.wire.proofs.Exactly.{not-too-long}
 use Rattle.wire.proofs.Tlv.{tlv-viewed}
 use Rattle.wire.proofs.Walk.{read-complete, each-at, read-accepted}
 use Rattle.wire.proofs.Walk as Walk
+use Rattle.wire.proofs.Arms.{number-of-name}
 use Rattle.wire.specs.Refuses.{Refuses}
 use Rattle.wire.specs.Exactly.{Sound, Complete, Told, Unique}
 use Rattle.wire.specs.Number as Number
@@ -18,7 +19,8 @@ use Rattle.wire.specs.TlvAt.{unread}
 use Rattle.initiation_message.specs.Grammar.{Reading, join, Good, grammar, places}
 use Rattle.initiation_message.specs.Read.{kit, readInitiation, reader, answer}
 use Rattle.initiation_message.specs.declared.InitiationAnswer.{InitiationAnswer}
-use Rattle.initiation_message.specs.Shown.{refusedAnswer, shown}
+use Rattle.initiation_message.specs.declared.InitiationTlvType.the-variants.{Unknown}
+use Rattle.initiation_message.specs.Shown.{refusedAnswer, shown, names, typeOf, kindOf}
 use Rattle.initiation_message.proofs.Laws.{faults, laws, tails}
 use Rattle.initiation_message.proofs.Shows.{shows-of, ViewAt}
 use Rattle.initiation_message.proofs.Told as ToldProofs
@@ -64,6 +66,11 @@ pub views : (r : Reading) → Good r → AllAt sizeOf (ViewAt (join r)) 0 (r .tl
 views r g =
     each-at kit laws (ViewAt (join r)) (join r) (λ at t z h e. tlv-viewed t z (h .well-formed) (join r) at e)
     (r .tlvs) (putTail (r .tail)) 0 (g .each) refl
+
+-- Name and number stand for each other.
+pub type-number : (n : ℕ) → kindOf (typeOf n) ≡ n
+unfolding typeOf kindOf
+type-number n = number-of-name kindOf n (Unknown n) names refl (λ h. refl)
 
 -- ---- any two answers that the contracts allow are equal
 pub parse-determined : (s : List ℕ) (a b : InitiationAnswer) → a ≡ readInitiation s → b ≡ readInitiation s → a ≡ b

@@ -10,7 +10,7 @@ use Rattle.wire.specs.Tlv.{Tlv, Tail}
 use Rattle.wire.proofs.Tlv.{tail-join}
 use Rattle.wire.proofs.Walk as Walk
 use Rattle.wire.specs.Exactly.{Shows}
-use Rattle.initiation_message.specs.Shown.{entry, shown}
+use Rattle.initiation_message.specs.Shown.{entry, infoOf, shown}
 use Rattle.initiation_message.specs.Read.{kit, answer, reader}
 use Rattle.initiation_message.proofs.Laws.{laws, tails}
 
@@ -23,4 +23,4 @@ shows-of s h l t a =
 
 -- the view of a TLV, in the entry that shows it at a place, shows its value
 abbrev pub ViewAt : List ℕ → ℕ → Tlv → Type 0
-ViewAt s at t = viewed s (entry at t .info) ≡ t .value
+ViewAt s at t = viewed s (infoOf (entry at t)) ≡ t .value

@@ -10,7 +10,6 @@ use lib.Dec.{leb, ltb}
 use lib.ListN.{length, drop, length-drop}
 use Rattle.wire.specs.Bytes.{pick, numAt}
 use Rattle.cursor.specs.Read.{cursor}
-use Rattle.wire.specs.View.{view}
 use Rattle.wire.specs.Tlv.{Tlv, sizeOf}
 use Rattle.wire.specs.TlvAt.{tlvOf, tailOf, stopAt}
 use Rattle.wire.specs.Walk as Walk
@@ -18,9 +17,8 @@ use Rattle.wire.specs.Walk.{stop, bad, item}
 use Rattle.wire.specs.declared.Refusal.{Refusal}
 use Rattle.cursor.specs.declared.Cursor.{Cursor}
 use Rattle.wire.proofs.Tlv.{NoTlv}
-use Rattle.initiation_message.specs.Shown.{typeOf, entry}
+use Rattle.initiation_message.specs.Shown.{entry}
 use Rattle.initiation_message.specs.Read.{step, asStep, stepAt}
-use Rattle.initiation_message.specs.declared.InitiationTlv.{InitiationTlv}
 use Rattle.initiation_message.specs.declared.Step.the-variants.{Stop, Whole}
 
 pub data Seen (s : List ℕ) : Walk.Step Tlv → Type 0 where
@@ -76,11 +74,11 @@ module _ (s : List ℕ) (at : ℕ) where
         rw (of (drop at s) (none (inr (long′, rw (length-drop, size-is) (omega arith)))), lt-leb (length (drop at s)) 4 long′, place-is)
 
     pub whole-at : (kind : ℕ) → numAt 2 (drop at s) 0 ≡ kind → size ≤ length s - place
-        → stepAt s at ≡ Whole (record { «info_type» = typeOf kind; «info_len» = size; info = view place size }) (cursor (place + size))
+        → stepAt s at ≡ Whole kind size place (cursor (place + size))
     whole-at kind kind-is h =
         let end-is : at + (4 + numAt 2 (drop at s) 2) ≡ place + size = omega arith in
         ap (asStep at (drop at s)) (of (drop at s) (whole long′ (rw (length-drop, size-is) (omega arith))))
-        ∙ (λ i. Whole (record { «info_type» = typeOf (kind-is i); «info_len» = size-is i; info = view (sym place-is i) (size-is i) }) (cursor (end-is i)))
+        ∙ (λ i. Whole (kind-is i) (size-is i) (sym place-is i) (cursor (end-is i)))
 
 -- ---- and the other way
 pub was-stop : (at p : ℕ) (s : List ℕ) → asStep at s (step s) ≡ Stop p → (step s ≡ stop) × (p ≡ stopAt at (tailOf s))
@@ -91,11 +89,16 @@ was-stop at p s e = go (step s) refl e
     go (bad r) h q = absurd (no-fault s r (see s) h)
     go (item t) h q = (cc, cc)
 
-pub was-whole : (at : ℕ) (u : InitiationTlv) (c : Cursor) (s : List ℕ) → asStep at s (step s) ≡ Whole u c
-    → (t : Tlv) × (step s ≡ item t) × (entry at t ≡ u) × (at + sizeOf t ≡ c .at)
-was-whole at u c s e = go (step s) refl e
+pub was-whole : (at kind size place : ℕ) (c : Cursor) (s : List ℕ) → asStep at s (step s) ≡ Whole kind size place c
+    → (t : Tlv) × (step s ≡ item t) × (entry at t ≡ record { kind = kind; «info_len» = size; place = place }) × (at + sizeOf t ≡ c .at)
+was-whole at kind size place c s e = go (step s) refl e
   where
-    go : (x : Walk.Step Tlv) → step s ≡ x → asStep at s x ≡ Whole u c → (t : Tlv) × (step s ≡ item t) × (entry at t ≡ u) × (at + sizeOf t ≡ c .at)
-    go stop h q = (tlvOf s, cc, cc, cc)
+    go : (x : Walk.Step Tlv) → step s ≡ x → asStep at s x ≡ Whole kind size place c
+        → (t : Tlv) × (step s ≡ item t) × (entry at t ≡ record { kind = kind; «info_len» = size; place = place }) × (at + sizeOf t ≡ c .at)
+    go stop h q = let z : _≡_ {A = ℕ} 0 1 = cc in absurd (omega arith)
     go (bad r) h q = absurd (no-fault s r (see s) h)
-    go (item t) h q = (t, h, cc, cc)
+    go (item t) h q =
+        let kind-is : t .kind ≡ kind = cc in
+        let size-is : t .size ≡ size = cc in
+        let place-is : at + 4 ≡ place = cc in
+        (t, h, λ i. record { kind = kind-is i; «info_len» = size-is i; place = place-is i }, cc)

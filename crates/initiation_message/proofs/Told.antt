@@ -8,25 +8,18 @@ use Rattle.wire.specs.View.{viewed}
 use Rattle.wire.specs.TlvAt.{unread}
 use Rattle.wire.specs.Tlv.{Tlv, putTlv, sizeOf, putTail}
 use Rattle.wire.specs.Exactly.{Told}
-use Rattle.wire.proofs.Arms.{number-of-name}
 use Rattle.wire.proofs.Tlv.{tlv-viewed, tail-join, stop-behind}
 use Rattle.wire.proofs.Walk.{each-at, items-told, tail-behind, end-within}
 use Rattle.initiation_message.specs.Grammar.{Reading, join, ReadTlv, Good, places}
-use Rattle.initiation_message.specs.Shown.{names, typeOf, kindOf, entry, zeroTlv, shown}
+use Rattle.initiation_message.specs.Shown.{entry, zeroTlv, shown}
 use Rattle.initiation_message.specs.Told.{toldTlv}
 use Rattle.initiation_message.specs.Read.{kit, reader}
-use Rattle.initiation_message.specs.declared.InitiationTlvType.the-variants.{Unknown}
 use Rattle.initiation_message.proofs.Laws.{laws}
-
--- Each number is told by its name.
-pub kind-told : (n : ℕ) → kindOf (typeOf n) ≡ n
-unfolding typeOf kindOf
-kind-told n = number-of-name kindOf n (Unknown n) names refl (λ h. refl)
 
 tlv-told : (s : List ℕ) (at : ℕ) (t : Tlv) (r : List ℕ) → ReadTlv t r → drop at s ≡ putTlv t r → toldTlv (viewed s) (entry at t) ≡ t
 tlv-told s at t r g e =
     let value-is = tlv-viewed t r (g .well-formed) s at e in
-    λ i. record { kind = kind-told (t .kind) i; size = t .size; value = value-is i }
+    λ i. record { kind = t .kind; size = t .size; value = value-is i }
 
 pub told-back : Told reader
 told-back r g f =

@@ -27,11 +27,11 @@ step s = pick (leb (length s) 4) stop (pick (ltb (length s - 4) (numAt 2 s 2)) s
 abbrev pub kit : Kit
 kit = record { Item = Tlv; Entry = InitiationTlv; step = step; size = sizeOf; entry = entry; none = zeroTlv; limit = places }
 
--- one step at a place, as the code answers it: the stop, or the entry and the cursor past it; there is no fault
+-- one step at a place, as the code answers it: the stop, or the numbers of the entry and the cursor past it; there is no fault
 abbrev pub asStep : ℕ → List ℕ → Walk.Step Tlv → Step
 asStep at s stop = Stop (stopAt at (tailOf s))
 asStep at s (bad r) = Stop 0
-asStep at s (item t) = Whole (entry at t) (cursor (at + sizeOf t))
+asStep at s (item t) = Whole (t .kind) (t .size) (at + 4) (cursor (at + sizeOf t))
 
 abbrev pub stepAt : List ℕ → ℕ → Step
 stepAt s at = asStep at (drop at s) (step (drop at s))

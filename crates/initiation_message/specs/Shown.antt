@@ -8,6 +8,7 @@ use Rattle.wire.specs.Parts.{shownFrom, endFrom}
 use Rattle.wire.specs.TlvAt.{stopAt}
 use Rattle.wire.specs.Tlv.{Tlv, sizeOf, Tail}
 use Rattle.wire.specs.declared.Refusal.{Refusal}
+use Rattle.wire.specs.declared.View.{View}
 use Rattle.initiation_message.specs.Grammar.{Reading, places}
 use Rattle.initiation_message.specs.declared.InitiationTlvType.{InitiationTlvType}
 use Rattle.initiation_message.specs.declared.InitiationTlvType.the-variants.{String, SysDescr, SysName, VrTableName, AdminLabel, Unknown}
@@ -30,14 +31,18 @@ kindOf AdminLabel = 4
 kindOf (Unknown n) = n
 
 abbrev pub zeroTlv : InitiationTlv
-zeroTlv = record { «info_type» = String; «info_len» = 0; info = view 0 0 }
+zeroTlv = record { kind = 0; «info_len» = 0; place = 0 }
 
 unfoldable pub zeroTable : List InitiationTlv
 zeroTable = replicate places zeroTlv
 
 -- a TLV as the table shows it, where it starts at a place
 abbrev pub entry : ℕ → Tlv → InitiationTlv
-entry at t = record { «info_type» = typeOf (t .kind); «info_len» = t .size; info = view (at + 4) (t .size) }
+entry at t = record { kind = t .kind; «info_len» = t .size; place = at + 4 }
+
+-- the view of an entry's value
+abbrev pub infoOf : InitiationTlv → View
+infoOf t = view (t .place) (t .«info_len»)
 
 abbrev pub goodAnswer : ℕ → ℕ → List InitiationTlv → Tail → InitiationAnswer
 goodAnswer count end table t =

@@ -7,12 +7,12 @@ use Rattle.wire.specs.TlvAt.{tailOf}
 use Rattle.wire.specs.Exactly.{Nothing}
 use Rattle.wire.specs.declared.View.{View}
 use Rattle.initiation_message.specs.Grammar.{Reading}
-use Rattle.initiation_message.specs.Shown.{kindOf}
+use Rattle.initiation_message.specs.Shown.{infoOf}
 use Rattle.initiation_message.specs.declared.InitiationTlv.{InitiationTlv}
 use Rattle.initiation_message.specs.declared.InitiationAnswer.{InitiationAnswer}
 
 abbrev pub toldTlv : (View → List ℕ) → InitiationTlv → Tlv
-toldTlv look t = record { kind = kindOf (t .«info_type»); size = t .«info_len»; value = look (t .info) }
+toldTlv look t = record { kind = t .kind; size = t .«info_len»; value = look (infoOf t) }
 
 abbrev pub told : (View → List ℕ) → InitiationAnswer → Nothing → List ℕ → Reading
 told look a x tail = record { tlvs = itemsIn (toldTlv look) (a .message .count) (a .message .tlvs); tail = tailOf tail }

@@ -1,11 +1,14 @@
 // The body of a BMP Initiation message (RFC 7854, section 4.3).
 use cursor::Cursor;
-use cursor::ReadU16;
+use tlv_head::TlvHead;
 use wire::Refusal;
 use wire::View;
 ghost use mathlib.Core.Path.{_≡_};
+ghost use Prim.Native.Nat.{_≤_};
+ghost use lib.ListN.{length};
+ghost use Rattle.wire.specs.Number as Number;
 ghost use Rattle.wire.specs.Refusal.{refusal};
-ghost use Rattle.initiation_message.specs.Shown.{typeOf, zeroTlv, refusedAnswer};
+ghost use Rattle.initiation_message.specs.Shown.{typeOf, kindOf, infoOf, zeroTlv, refusedAnswer};
 ghost use Rattle.initiation_message.specs.Read.{stepAt, readInitiation};
 
 pub enum InitiationTlvType {
@@ -17,10 +20,11 @@ pub enum InitiationTlvType {
     Unknown(u16),
 }
 
+// A TLV as the wire has it: its type, its length, and the place of its value.
 pub struct InitiationTlv {
-    pub info_type: InitiationTlvType,
+    pub kind: u16,
     pub info_len: u16,
-    pub info: View,
+    pub place: u32,
 }
 
 pub struct InitiationMessage {
@@ -36,10 +40,53 @@ pub struct InitiationAnswer {
     pub message: InitiationMessage,
 }
 
-// What stands at a place of the walk: its end with the stop place, or a TLV and the cursor past it.
+// What stands at a place of the walk: its end with the stop place, or the three numbers of a TLV and the cursor past it.
 enum Step {
     Stop(usize),
-    Whole(InitiationTlv, Cursor),
+    Whole(u16, u16, u32, Cursor),
+}
+
+impl InitiationTlvType {
+    // The number that stands for the type on the wire.
+    pub fn number(self) -> u16
+        ensures { λ r. ⌜ r ≡ kindOf self ⌝ }
+    {
+        match self {
+            InitiationTlvType::String => 0,
+            InitiationTlvType::SysDescr => 1,
+            InitiationTlvType::SysName => 2,
+            InitiationTlvType::VrTableName => 3,
+            InitiationTlvType::AdminLabel => 4,
+            InitiationTlvType::Unknown(n) => n,
+        }
+    }
+}
+
+impl InitiationTlv {
+    // The name of the TLV's type.
+    pub fn info_type(self) -> InitiationTlvType
+        ensures { λ r. ⌜ r ≡ typeOf (self .kind) ⌝ }
+    {
+        let kind = self.kind;
+        match kind {
+            0 => InitiationTlvType::String,
+            1 => InitiationTlvType::SysDescr,
+            2 => InitiationTlvType::SysName,
+            3 => InitiationTlvType::VrTableName,
+            4 => InitiationTlvType::AdminLabel,
+            _ => InitiationTlvType::Unknown(kind),
+        }
+    }
+
+    // Where the value stands.
+    pub fn info(self) -> View
+        ensures { λ r. ⌜ r ≡ infoOf self ⌝ }
+    {
+        View {
+            place: self.place as usize,
+            length: self.info_len as usize,
+        }
+    }
 }
 
 pub fn parse_initiation_message(s: &[u8]) -> InitiationAnswer
@@ -55,11 +102,15 @@ pub fn parse_initiation_message(s: &[u8]) -> InitiationAnswer
     let stop = loop {
         match step_at(s, at) {
             Step::Stop(place) => break place,
-            Step::Whole(tlv, next) => {
+            Step::Whole(kind, size, place, next) => {
                 if 32 <= count {
                     return refused(wire::TOO_MANY, at);
                 }
-                tlvs[count] = tlv;
+                tlvs[count] = InitiationTlv {
+                    kind: kind,
+                    info_len: size,
+                    place: place,
+                };
                 count += 1;
                 at = next.at;
             }
@@ -79,62 +130,36 @@ pub fn parse_initiation_message(s: &[u8]) -> InitiationAnswer
     }
 }
 
+// A TLV is read while more than a head is left.
 fn step_at(s: &[u8], at: usize) -> Step
+    requires { ⌜ length (now s) ≤ Number.limit ⌝ }
     ensures { λ r. ⌜ r ≡ stepAt (now (s .entry)) at ⌝ }
 {
-    if wire::left(s, at) <= 4 {
-        return Step::Stop(at);
-    }
     let start = Cursor { at: at };
-    let ReadU16::Good(kind, after_kind) = start.read_u16(s) else {
+    let TlvHead::Found(kind, size, value) = tlv_head::read_head(start, s, 1) else {
         return Step::Stop(at);
     };
-    let ReadU16::Good(size, after_size) = after_kind.read_u16(s) else {
-        return Step::Stop(at);
-    };
-    let place = after_size.at;
+    let place = value.at;
     if wire::left(s, place) < (size as usize) {
         return Step::Stop(place);
     }
-    let tlv = InitiationTlv {
-        info_type: type_of(kind),
-        info_len: size,
-        info: View {
-            place: place,
-            length: size as usize,
-        },
-    };
     Step::Whole(
-        tlv,
+        kind,
+        size,
+        place as u32,
         Cursor {
             at: place + (size as usize),
         },
     )
 }
 
-fn type_of(kind: u16) -> InitiationTlvType
-    ensures { λ r. ⌜ r ≡ typeOf kind ⌝ }
-{
-    match kind {
-        0 => InitiationTlvType::String,
-        1 => InitiationTlvType::SysDescr,
-        2 => InitiationTlvType::SysName,
-        3 => InitiationTlvType::VrTableName,
-        4 => InitiationTlvType::AdminLabel,
-        _ => InitiationTlvType::Unknown(kind),
-    }
-}
-
 fn zero_tlv() -> InitiationTlv
     ensures { λ r. ⌜ r ≡ zeroTlv ⌝ }
 {
     InitiationTlv {
-        info_type: InitiationTlvType::String,
+        kind: 0,
         info_len: 0,
-        info: View {
-            place: 0,
-            length: 0,
-        },
+        place: 0,
     }
 }
 

@@ -16,9 +16,8 @@ use Rattle.writing.proofs.Table.{kept-each}
 use Rattle.writing.proofs.Trip.{table-back}
 use Rattle.tlv_table.proofs.Written.{good-fits}
 use Rattle.tlv_table.proofs.Translated.{no-tail-translated}
-use Rattle.initiation_message.proofs.Told.{kind-told}
 use Rattle.initiation_message.specs.Grammar.{Reading, join, ReadTlv, places}
-use Rattle.initiation_message.specs.Shown.{kindOf, zeroTlv, entry}
+use Rattle.initiation_message.specs.Shown.{infoOf, zeroTlv, entry}
 use Rattle.initiation_message_writer.specs.Write.{valueOf, partOf, writer, kept, bytesOf, writable, entryOf, SameTlv, Same}
 use Rattle.initiation_message.specs.declared.InitiationTlv.{InitiationTlv}
 use Rattle.initiation_message.specs.declared.InitiationMessage.{InitiationMessage}
@@ -28,7 +27,7 @@ use Rattle.initiation_message.proofs.Shows.{ViewAt}
 use Rattle.initiation_message_writer.proofs.Trip.{ReadsBack}
 
 abbrev pub Inside : List ℕ → InitiationTlv → Type 0
-Inside b t = t .info .place + t .info .length ≤ length b
+Inside b t = t .place + t .«info_len» ≤ length b
 
 -- entries whose items are good are writable
 followed : (b : List ℕ) (t : InitiationTlv) (l : List InitiationTlv) → ReadTlv (partOf b t) (joined writer b l) → 0 < t .«info_len» + length l
@@ -41,7 +40,7 @@ all-fine : (b : List ℕ) (l : List InitiationTlv) → EachGood putTlv ReadTlv (
 all-fine b [] g h = refl
 all-fine b (t ∷ l) g h =
     rw (fine-from (length b) (length l) t (record {
-      fits = good-fits _ _ (t .info) b (g .0 .well-formed) (h 0 (omega arith));
+      fits = good-fits _ _ (infoOf t) b (g .0 .well-formed) (h 0 (omega arith));
       not-last-empty = followed b t l (g .0);
     }))
     (all-fine b l (g .1) (λ i e. h (suc i) (omega arith)))
@@ -49,7 +48,7 @@ all-fine b (t ∷ l) g h =
 -- an item that is shown as an entry is that entry's
 one-part : (b s : List ℕ) (at : ℕ) (x : Tlv) (t : InitiationTlv) → ViewAt s at x → SameTlv t b (entry at x) s → x ≡ partOf b t
 one-part b s at x t v e =
-    let kind-is : x .kind ≡ kindOf (t .«info_type») = sym (e .kind-same ∙ kind-told (x .kind)) in
+    let kind-is : x .kind ≡ t .kind = sym (e .kind-same) in
     let value-is : x .value ≡ valueOf b t = sym (e .bytes-same ∙ v) in
     λ i. record { kind = kind-is i; size = sym (e .len-same) i; value = value-is i }
 

@@ -16,9 +16,8 @@ use Rattle.writing.proofs.Tlv.{tlv-good}
 use Rattle.writing.proofs.Table.{all-good, length-parts, length-sizes, Kept}
 use Rattle.writing.proofs.Trip.{table-same, end-sizes}
 use Rattle.tlv_table.proofs.Translated.{length-translated}
-use Rattle.initiation_message.proofs.Told.{kind-told}
 use Rattle.initiation_message.specs.Grammar.{ReadTlv, Good, places}
-use Rattle.initiation_message.specs.Shown.{kindOf, zeroTlv, entry, shown}
+use Rattle.initiation_message.specs.Shown.{zeroTlv, entry, shown}
 use Rattle.initiation_message.specs.Read.{readInitiation}
 use Rattle.initiation_message_writer.specs.Write.{partOf, tlvWritable, writer, kept, readingOf, bytesOf, entryOf, SameTlv, Same}
 use Rattle.initiation_message.specs.declared.InitiationTlv.{InitiationTlv}
@@ -41,7 +40,7 @@ pub good-of : (m : InitiationMessage) (b : List ℕ) → Bytes b → allOk write
 good-of m b p e = record { each = all-good writer ReadTlv b (read-tlv b p) (kept m) e; tail-good = (omega arith, none) }
 
 same-tlv : (b s : List ℕ) (n at : ℕ) (t : InitiationTlv) → tlvWritable (length b) n t ≡ true → ViewAt s at (partOf b t) → SameTlv t b (entry at (partOf b t)) s
-same-tlv b s n at t o v = record { kind-same = sym (kind-told (kindOf (t .«info_type»))); len-same = refl; bytes-same = sym v }
+same-tlv b s n at t o v = record { kind-same = refl; len-same = refl; bytes-same = sym v }
 
 -- the bytes s are read as the record m, whose views point into b, to their end
 pub record ReadsBack (m : InitiationMessage) (b s : List ℕ) : Type 0 where

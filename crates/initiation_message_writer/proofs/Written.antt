@@ -9,11 +9,14 @@ use lib.ListN.{length, length-map}
 use mir.Val.{Val}
 use denote.Laws.{Is}
 use denote.Struct.Laws as Struct
-use Rattle.tlv_table.specs.Tlvs.{entryWritable}
+use Rattle.wire.specs.Bytes.{be}
+use Rattle.writing.proofs.Table.{Bodied}
+use Rattle.tlv_table.specs.Tlvs.{entryWritable, oneTlv}
+use Rattle.tlv_table.proofs.Written.{entry-long}
 use Rattle.tlv_table.proofs.Walked.{WalkedTlvFits, walked-of, walked-from}
 use Rattle.tlv_table.proofs.Translated.{Translates}
 use Rattle.initiation_message.specs.Grammar.{places}
-use Rattle.initiation_message.specs.Shown.{kindOf}
+use Rattle.initiation_message.specs.Shown.{infoOf}
 use Rattle.initiation_message_writer.specs.Write.{tlvWritable, writer, entryOf}
 use Rattle.initiation_message.specs.declared.InitiationTlv.{InitiationTlv}
 use Rattle.initiation_message.specs.declared.InitiationMessage.{InitiationMessage}
@@ -26,7 +29,7 @@ table-long m vs is = sym (length-map (m .tlvs) _) ∙ Struct.owed Message.the-ty
 
 -- ---- what `tlvWritable` asks
 abbrev pub Fine : ℕ → ℕ → InitiationTlv → Type 0
-Fine room after t = WalkedTlvFits (kindOf (t .«info_type»)) (t .«info_len») (t .info) room after
+Fine room after t = WalkedTlvFits (t .kind) (t .«info_len») (infoOf t) room after
 
 pub fine-of : (room after : ℕ) (t : InitiationTlv) → tlvWritable room after t ≡ true → Fine room after t
 unfolding tlvWritable
@@ -40,3 +43,11 @@ fine-from room after t f = walked-from _ _ _ _ _ f
 pub translates : Translates writer 0 false entryOf
 unfolding tlvWritable entryWritable
 translates = record { ok-same = λ room n t. rw (le-leb 0 (t .«info_len») (omega arith)); size-same = λ t. refl; put-same = λ b t r. refl }
+
+-- ---- the bytes of one TLV alone, as the kit wants them
+abbrev pub oneOf : List ℕ → InitiationTlv → List ℕ
+oneOf b t = oneTlv b (entryOf t)
+
+pub bodied : Bodied writer oneOf
+unfolding be
+bodied = record { put-is = λ b t r. refl; length-is = λ b n t e. entry-long 0 false b n (entryOf t) (translates .ok-same (length b) n t ∙ e) }

@@ -2,7 +2,7 @@
 use Prim.Native.Nat.{ℕ, _+_, _<_}
 use mathlib.Core.Path.{_≡_}
 use mathlib.Core.Bool.{Bool, false}
-use mathlib.Core.List.{List, [], map}
+use mathlib.Core.List.{List, []}
 use lib.ListN.{take, getD}
 use lib.Dec.{ltb}
 use Rattle.wire.specs.Bytes.{pick}
@@ -12,23 +12,22 @@ use Rattle.writing.specs.Table.{Writer, parts, allOk}
 use Rattle.tlv_table.specs.Tlvs.{walkedTlvFits}
 use Rattle.tlv_table.specs.declared.TlvValue.the-variants.{Part}
 use Rattle.tlv_table.specs.declared.TlvEntry.{TlvEntry}
-use Rattle.tlv_table.specs.declared.TlvTable.{TlvTable}
 use Rattle.initiation_message.specs.Grammar.{Reading, join, places}
-use Rattle.initiation_message.specs.Shown.{kindOf, zeroTlv}
+use Rattle.initiation_message.specs.Shown.{infoOf, zeroTlv}
 use Rattle.initiation_message.specs.declared.InitiationTlv.{InitiationTlv}
 use Rattle.initiation_message.specs.declared.InitiationMessage.{InitiationMessage}
 
 -- ---- the reading of a record whose views point into a buffer
 abbrev pub valueOf : List ℕ → InitiationTlv → List ℕ
-valueOf b t = viewed b (t .info)
+valueOf b t = viewed b (infoOf t)
 
 abbrev pub partOf : List ℕ → InitiationTlv → Tlv
-partOf b t = record { kind = kindOf (t .«info_type»); size = t .«info_len»; value = valueOf b t }
+partOf b t = record { kind = t .kind; size = t .«info_len»; value = valueOf b t }
 
 -- ---- a TLV is writable, by the buffer's length and the number of TLVs after it: it can be written from its view, and it is not a
 -- last one of length 0, which the reader would take for a tail
 unfoldable pub tlvWritable : ℕ → ℕ → InitiationTlv → Bool
-tlvWritable room after t = walkedTlvFits (kindOf (t .«info_type»)) (t .«info_len») (t .info) room after
+tlvWritable room after t = walkedTlvFits (t .kind) (t .«info_len») (infoOf t) room after
 
 abbrev pub writer : Writer
 writer =
@@ -54,18 +53,15 @@ bytesOf m b = join (readingOf m b)
 abbrev pub writable : InitiationMessage → ℕ → Bool
 writable m room = pick (ltb places (m .count)) false (allOk writer room (kept m))
 
--- ---- the table of TLVs that is written for a record
+-- ---- the TLV that is written for an entry
 abbrev pub entryOf : InitiationTlv → TlvEntry
-entryOf t = record { kind = kindOf (t .«info_type»); size = t .«info_len»; value = Part (t .info) }
-
-abbrev pub tableOf : InitiationMessage → TlvTable
-tableOf m = record { tlvs = map entryOf (m .tlvs); count = m .count; least = 0; «empty_last» = false }
+entryOf t = record { kind = t .kind; size = t .«info_len»; value = Part (infoOf t) }
 
 -- ---- two records are the same: their numbers below the count, and the bytes that their views show, each in its own buffer
 pub record SameTlv (t : InitiationTlv) (b : List ℕ) (u : InitiationTlv) (s : List ℕ) : Type 0 where
-  pub kind-same : kindOf (t .«info_type») ≡ kindOf (u .«info_type»)
+  pub kind-same : t .kind ≡ u .kind
   pub len-same : t .«info_len» ≡ u .«info_len»
-  pub bytes-same : viewed b (t .info) ≡ viewed s (u .info)
+  pub bytes-same : viewed b (infoOf t) ≡ viewed s (infoOf u)
 
 pub record Same (m : InitiationMessage) (b : List ℕ) (n : InitiationMessage) (s : List ℕ) : Type 0 where
   pub count-same : m .count ≡ n .count

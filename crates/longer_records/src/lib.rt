@@ -1,23 +1,20 @@
 // Records that are one byte too long for the writers, for the program limits.
 use initiation_message::InitiationTlv;
-use initiation_message::InitiationTlvType;
 use kinds::Arguments;
 use kinds::Kind;
 use peer_down_notification::PeerDownData;
 use peer_down_notification::PeerDownNotification;
 use peer_down_notification::PeerDownReason;
 use peer_up_notification::PeerUpNotificationTlv;
-use peer_up_notification::PeerUpTlvType;
 use route_mirroring::RouteMirroringTlv;
-use route_mirroring::RouteMirroringValue;
 use route_monitoring::RouteMonitoring;
-use stats_data::StatsData;
 use stats_report::StatCounter;
-use stats_type::StatType;
 use termination_message::TerminationTlv;
-use termination_message::TerminationTlvValue;
 use wire::View;
 use writing::WriteAnswer;
+
+// The place of the second entry's value in a whole table: one byte more of it is the first byte of the third entry.
+const LARGER: u32 = 65_540;
 
 // Writes a record that is one byte longer than the one that a slice holds and fills, made of views of a buffer that begins with that slice.
 // Kinds whose records are always shorter have none.
@@ -49,9 +46,11 @@ fn longer_stats(s: &[u8], buffer: &[u8], out: &mut [u8]) -> WriteAnswer {
     let answer = stats_report::parse_stats_report(s);
     let mut report = answer.report;
     report.counters[1] = StatCounter {
-        stat_type: StatType::PrefixesRejectedByInboundPolicy,
+        kind: 0,
         stat_len: limit_inputs::LARGE + 1,
-        stat_data: StatsData::Unknown(larger_value()),
+        afi: 0,
+        safi: 0,
+        value: LARGER as u64,
     };
     stats_report_writer::write_stats_report(report, buffer, out)
 }
@@ -60,9 +59,9 @@ fn longer_initiation(s: &[u8], buffer: &[u8], out: &mut [u8]) -> WriteAnswer {
     let answer = initiation_message::parse_initiation_message(s);
     let mut message = answer.message;
     message.tlvs[1] = InitiationTlv {
-        info_type: InitiationTlvType::String,
+        kind: 0,
         info_len: limit_inputs::LARGE + 1,
-        info: larger_value(),
+        place: LARGER,
     };
     initiation_message_writer::write_initiation_message(message, buffer, out)
 }
@@ -71,8 +70,9 @@ fn longer_termination(s: &[u8], buffer: &[u8], out: &mut [u8]) -> WriteAnswer {
     let answer = termination_message::parse_termination_message(s);
     let mut message = answer.message;
     message.tlvs[1] = TerminationTlv {
+        kind: 0,
         info_len: limit_inputs::LARGE + 1,
-        info_value: TerminationTlvValue::String(larger_value()),
+        value: LARGER,
     };
     termination_message_writer::write_termination_message(message, buffer, out)
 }
@@ -81,8 +81,9 @@ fn longer_mirroring(s: &[u8], buffer: &[u8], out: &mut [u8]) -> WriteAnswer {
     let answer = route_mirroring::parse_route_mirroring(s);
     let mut message = answer.message;
     message.tlvs[1] = RouteMirroringTlv {
+        kind: 0,
         info_len: limit_inputs::LARGE + 1,
-        value: RouteMirroringValue::BgpMessage(larger_value()),
+        number: LARGER,
     };
     route_mirroring_writer::write_route_mirroring(message, buffer, out)
 }
@@ -93,19 +94,11 @@ fn longer_peer_up(arguments: Arguments, s: &[u8], buffer: &[u8], out: &mut [u8])
     let answer = peer_up_notification::parse_peer_up_notification(s, afi, peer_type);
     let mut message = answer.message;
     message.tlvs[1] = PeerUpNotificationTlv {
-        info_type: PeerUpTlvType::String,
+        kind: 0,
         info_len: limit_inputs::LARGE + 1,
-        info_value: larger_value(),
+        place: LARGER,
     };
     peer_up_notification_writer::write_peer_up_notification(message, buffer, out)
-}
-
-// The value of the second entry of a whole table, and the first byte of the third entry.
-fn larger_value() -> View {
-    View {
-        place: 65_540,
-        length: (limit_inputs::LARGE as usize) + 1,
-    }
 }
 
 fn longer_peer_down(buffer: &[u8], out: &mut [u8]) -> WriteAnswer {

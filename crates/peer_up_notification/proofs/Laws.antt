@@ -13,7 +13,7 @@ use Rattle.wire.proofs.Tlv.{tlv-length, tlv-there, tlv-join, tlv-rest, tlv-part
 use Rattle.wire.proofs.Walk.{Takes, Faults, Laws, Tails, onwards, TurnTo, turn-to, onwards-bad, resume-stop}
 use Rattle.peer_type.specs.declared.BmpPeerType.{BmpPeerType}
 use Rattle.peer_up_notification.specs.Grammar.{ReadTlv, GoodTail, places}
-use Rattle.peer_up_notification.specs.Shown.{messageOf, goodAnswer}
+use Rattle.peer_up_notification.specs.Shown.{shownTlv, messageOf, goodAnswer}
 use Rattle.peer_up_notification.specs.Read.{step, stepAt, kit, warningsIn, withTlvs}
 use Rattle.peer_up_notification.specs.declared.PeerUpNotificationTlv.{PeerUpNotificationTlv}
 use Rattle.peer_up_notification.specs.declared.PeerUpAnswer.{PeerUpAnswer}
@@ -67,11 +67,11 @@ refuses n at table s d few e =
     let w = was-bad at d (step (drop at s)) e in
     onwards-bad kit nil n at table s (w .0) few (w .1) ∙ ap refused (w .2)
 
-pub onward : (n at : ℕ) (table : List PeerUpNotificationTlv) (s : List ℕ) (u : PeerUpNotificationTlv) (c : Cursor)
-    → n ≤ at → at ≤ length s → stepAt s at ≡ Whole u c → TurnTo kit takes n at table s u (c .at)
-onward n at table s u c few h e =
-    let w = was-whole at u c (step (drop at s)) e in
-    turn-to kit takes n at table s (w .0) u (c .at) few h (w .1) (w .2) (w .3)
+pub onward : (n at : ℕ) (table : List PeerUpNotificationTlv) (s : List ℕ) (kind size place : ℕ) (c : Cursor)
+    → n ≤ at → at ≤ length s → stepAt s at ≡ Whole kind size place c → TurnTo kit takes n at table s (shownTlv kind size place) (c .at)
+onward n at table s kind size place c few h e =
+    let w = was-whole at kind size place c (step (drop at s)) e in
+    turn-to kit takes n at table s (w .0) _ (c .at) few h (w .1) (w .2) (w .3)
 
 -- and where it finds neither, the answer is what was found before
 pub ends-well : (peer : BmpPeerType) (f : Front) (n at : ℕ) (table : List PeerUpNotificationTlv) (s : List ℕ) (p : ℕ) (o : Out PeerUpNotificationTlv)

@@ -2,19 +2,18 @@
 use mathlib.Core.Path.{_≡_, refl, sym, ap, ap₂, _∙_}
 use mathlib.Core.Bool.{Bool, true, false, _||_, or-false, or-true, or-assoc}
 use mathlib.Core.List.{List, [], _∷_, _++_, map}
-use Prim.Native.Nat.{ℕ, _+_}
+use Prim.Native.Nat.{ℕ, zero, suc, _+_, _<_}
+use native.Mathlib.Numerals.{add-one}
+use native.Mathlib.Omega.{arith}
 use lib.Dec.{eqb, ltb}
-use lib.ListN.{length, take, drop}
+use lib.ListN.{length, take, set}
 use Rattle.wire.specs.Parts.{shownFrom}
 use Rattle.wire.specs.Tlv.{Tlv, sizeOf}
-use Rattle.wire.proofs.Arms.{number-of-name}
-use Rattle.writing.proofs.Table.{At}
 use Rattle.peer_up_notification.specs.Warnings.{Head, headOf, some, isTableName, badTableName}
-use Rattle.peer_up_notification.specs.Shown.{typeOf, kindOf, entry, names}
-use Rattle.peer_up_notification.specs.Read.{headIn, headsIn, heardOf}
+use Rattle.peer_up_notification.specs.Shown.{shownTlv, entry}
+use Rattle.peer_up_notification.specs.Read.{headIn, headsIn, namesOf, heardOf}
 use Rattle.peer_up_notification.specs.declared.PeerUpNotificationTlv.{PeerUpNotificationTlv}
 use Rattle.peer_up_notification.specs.declared.TableNames.{TableNames}
-use Rattle.peer_up_notification.specs.declared.PeerUpTlvType.the-variants.{Unknown}
 
 -- ---- one TLV
 module _ (names : TableNames) (kind size : ℕ) where
@@ -31,36 +30,29 @@ module _ (names : TableNames) (kind size : ℕ) where
       let bad-is : b ≡ names .bad || badTableName (kind, size) = rw e k in
       λ i. record { some = some-is i; bad = bad-is i }
 
--- ---- and those after it
-abbrev pub alsoOf : TableNames → List Head → TableNames
-alsoOf names l = record { some = names .some || some isTableName l; bad = names .bad || some badTableName l }
+-- ---- and those of a table that grows by one
+some-set : (test : Head → Bool) (table : List PeerUpNotificationTlv) (n : ℕ) (u : PeerUpNotificationTlv) → n < length table
+    → some test (headsIn (take (suc n) (set table n u))) ≡ some test (headsIn (take n table)) || test (headIn u)
+some-set test [] n u h = absurd (omega arith)
+some-set test (t ∷ table) zero u h = or-false (test (headIn u))
+some-set test (t ∷ table) (suc n) u h =
+    ap (λ (b : Bool). test (headIn t) || b) (some-set test table n u (omega arith))
+    ∙ sym (or-assoc (test (headIn t)) (some test (headsIn (take n table))) (test (headIn u)))
 
-pub also-none : (names : TableNames) → alsoOf names [] ≡ names
-also-none names = λ i. record { some = or-false (names .some) i; bad = or-false (names .bad) i }
-
-also-more : (names : TableNames) (h : Head) (l : List Head) → alsoOf names (h ∷ l) ≡ alsoOf (heardOf names h) l
-also-more names h l =
-    λ i. record {
-      some = sym (or-assoc (names .some) (isTableName h) (some isTableName l)) i;
-      bad = sym (or-assoc (names .bad) (badTableName h) (some badTableName l)) i;
-    }
-
--- a turn of the loop over the table
-pub heard-here : (table : List PeerUpNotificationTlv) (n i : ℕ) (t : PeerUpNotificationTlv) → At table n i t → (all names next : TableNames)
-    → all ≡ alsoOf names (headsIn (drop i (take n table))) → next ≡ heardOf names (headIn t)
-    → all ≡ alsoOf next (headsIn (drop (i + 1) (take n table)))
-heard-here table n i t a all names next e h =
-    let l = headsIn (drop (i + 1) (take n table)) in
-    e ∙ ap (λ (k : List PeerUpNotificationTlv). alsoOf names (headsIn k)) (a .is) ∙ also-more names (headIn t) l
-    ∙ ap (λ (m : TableNames). alsoOf m l) (sym h)
+-- a turn of the reader's loop
+pub heard-set : (table : List PeerUpNotificationTlv) (n : ℕ) (u : PeerUpNotificationTlv) (kind size place : ℕ) (names next : TableNames)
+    → n < length table → u ≡ shownTlv kind size place → names ≡ namesOf (headsIn (take n table)) → next ≡ heardOf names (kind, size)
+    → next ≡ namesOf (headsIn (take (n + 1) (set table n u)))
+heard-set table n u kind size place names next h e f g =
+    let l = headsIn (take (n + 1) (set table n u)) in
+    let some-is : some isTableName (headsIn (take n table)) || isTableName (headIn u) ≡ some isTableName l =
+    rw (add-one) (sym (some-set isTableName table n u h)) in
+    let bad-is : some badTableName (headsIn (take n table)) || badTableName (headIn u) ≡ some badTableName l =
+    rw (add-one) (sym (some-set badTableName table n u h)) in
+    g ∙ ap₂ (λ (m : TableNames) (x : PeerUpNotificationTlv). heardOf m (headIn x)) f (sym e) ∙ (λ i. record { some = some-is i; bad = bad-is i })
 
 -- ---- the entries that show TLVs say what the TLVs say
-pub kind-told : (n : ℕ) → kindOf (typeOf n) ≡ n
-unfolding typeOf kindOf
-kind-told n = number-of-name kindOf n (Unknown n) names refl (λ h. refl)
-
 pub heads-shown : (at : ℕ) (l : List Tlv) (r : List PeerUpNotificationTlv)
     → headsIn (take (length l) (shownFrom sizeOf entry at l ++ r)) ≡ map headOf l
 heads-shown at [] r = refl
-heads-shown at (t ∷ l) r =
-    ap₂ (λ (k : ℕ) (m : List Head). (k, t .size) ∷ m) (kind-told (t .kind)) (heads-shown (at + sizeOf t) l r)
+heads-shown at (t ∷ l) r = ap (λ (m : List Head). headOf t ∷ m) (heads-shown (at + sizeOf t) l r)

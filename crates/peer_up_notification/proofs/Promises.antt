@@ -7,6 +7,7 @@ use lib.ListN.{length, take, length-append}
 use Rattle.wire.specs.Number as Number
 use Rattle.wire.specs.Bytes.{pick, be, Bytes}
 use Rattle.wire.proofs.Determined.{determined}
+use Rattle.wire.proofs.Arms.{number-of-name}
 use Rattle.wire.specs.Refuses.{Refuses}
 use Rattle.wire.specs.Exactly.{Sound, Complete, Told, Unique}
 use Rattle.wire.specs.Refusal.{refusal}
@@ -19,9 +20,10 @@ use Rattle.peer_type.specs.Peer.{kindOf, isLocRib}
 use Rattle.peer_type.specs.declared.BmpPeerType.{BmpPeerType}
 use Rattle.peer_up_notification.specs.Grammar.{Reading, join, Good, grammar, places, frontParts, joinMessages, widths, skippedFor, addressFor}
 use Rattle.peer_up_notification.specs.Warnings.{headOf, some, badTableName, noTableName, warnings}
-use Rattle.peer_up_notification.specs.Shown.{shown, refusedAnswer, tlvsAt}
+use Rattle.peer_up_notification.specs.Shown.{kindOf as numberOf, names, typeOf, shown, refusedAnswer, tlvsAt}
 use Rattle.peer_up_notification.specs.Read.{readPeerUp, reader}
 use Rattle.peer_up_notification.specs.declared.PeerUpAnswer.{PeerUpAnswer}
+use Rattle.peer_up_notification.specs.declared.PeerUpTlvType.the-variants.{Unknown}
 use Rattle.peer_up_notification.specs.Cuts.{CutIn}
 use Rattle.peer_up_notification.proofs.Sound.{accepted, reading-of, same-reading}
 use Rattle.peer_up_notification.proofs.Told as ToldProofs
@@ -67,6 +69,11 @@ unique = same-reading
 -- In the answer that shows a good reading, the views of the two messages show their bytes, and the view of each TLV its value.
 pub views : (afi : Afi) (peer : BmpPeerType) (r : Reading) → Good afi r → ShowsParts (join r) (shown afi peer r) r
 views = shows-parts
+
+-- Name and number stand for each other.
+pub type-number : (n : ℕ) → numberOf (typeOf n) ≡ n
+unfolding typeOf numberOf
+type-number n = number-of-name numberOf n (Unknown n) names refl (λ h. refl)
 
 -- ---- warnings
 -- The ones of the word are as many as the warnings that are given, which are none where the peer is no Loc-RIB.

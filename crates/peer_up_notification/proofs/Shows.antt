@@ -21,7 +21,7 @@ use Rattle.models.specs.declared.Afi.the-variants.{Ipv4, Ipv6}
 use Rattle.peer_type.specs.declared.BmpPeerType.{BmpPeerType}
 use Rattle.peer_up_notification.specs.Grammar.{messageBytes, joinTlvs, join, skippedFor, addressFor, Reading, Good, Fits}
 use Rattle.peer_up_notification.specs.Warnings.{Head, warningsOf}
-use Rattle.peer_up_notification.specs.Shown.{entry, sentAt, receivedAt, tlvsAt, shownAddress, shownFront, goodAnswer, shown}
+use Rattle.peer_up_notification.specs.Shown.{entry, infoOf, sentAt, receivedAt, tlvsAt, shownAddress, shownFront, goodAnswer, shown}
 use Rattle.peer_up_notification.specs.Read.{frontOf, kit, withTlvs, withReceived, withSent, readPeerUp}
 use Rattle.peer_up_notification.specs.declared.PeerUpAnswer.{PeerUpAnswer}
 use Rattle.peer_up_notification.proofs.Address.{address-shown}
@@ -117,7 +117,7 @@ module _ (afi : Afi) (r : Reading) (g : Good afi r) where
 
 -- ---- the view of a TLV that stands at a place shows its value
 abbrev pub ViewAt : List ℕ → ℕ → Tlv → Type 0
-ViewAt s at t = viewed s (entry at t .«info_value») ≡ t .value
+ViewAt s at t = viewed s (infoOf (entry at t)) ≡ t .value
 
 -- the views of an answer to s show the parts of r
 pub record ShowsParts (s : List ℕ) (a : PeerUpAnswer) (r : Reading) : Type 0 where

@@ -10,16 +10,14 @@ use lib.ListN.{length, drop, length-drop}
 use Rattle.wire.specs.Bytes.{pick, numAt}
 use Rattle.wire.specs.Refusal.{cutAt}
 use Rattle.cursor.specs.Read.{cursor}
-use Rattle.wire.specs.View.{view}
 use Rattle.wire.specs.Tlv.{Tlv, sizeOf}
 use Rattle.wire.specs.TlvAt.{tlvOf}
 use Rattle.wire.specs.Walk as Walk
 use Rattle.wire.specs.Walk.{stop, bad, item, from}
 use Rattle.wire.specs.declared.Refusal.{Refusal}
 use Rattle.cursor.specs.declared.Cursor.{Cursor}
-use Rattle.peer_up_notification.specs.Shown.{typeOf, entry}
+use Rattle.peer_up_notification.specs.Shown.{shownTlv, entry}
 use Rattle.peer_up_notification.specs.Read.{step, asStep, stepAt}
-use Rattle.peer_up_notification.specs.declared.PeerUpNotificationTlv.{PeerUpNotificationTlv}
 use Rattle.peer_up_notification.specs.declared.Step.the-variants.{Stop, Bad, Whole}
 
 pub data Seen (s : List ℕ) : Walk.Step Tlv → Type 0 where
@@ -86,11 +84,11 @@ module _ (s : List ℕ) (at : ℕ) where
         ∙ ap (λ (p : ℕ). Bad (cutAt p)) (sym place-is)
 
     pub whole-at : (kind : ℕ) → numAt 2 (drop at s) 0 ≡ kind → size ≤ length s - place
-        → stepAt s at ≡ Whole (record { «info_type» = typeOf kind; «info_len» = size; «info_value» = view place size }) (cursor (place + size))
+        → stepAt s at ≡ Whole kind size place (cursor (place + size))
     whole-at kind kind-is h =
         let end-is : at + (4 + numAt 2 (drop at s) 2) ≡ place + size = omega arith in
         ap (asStep at) (whole-of (drop at s) long′ (rw (length-drop, size-is) (omega arith)))
-        ∙ (λ i. Whole (record { «info_type» = typeOf (kind-is i); «info_len» = size-is i; «info_value» = view (sym place-is i) (size-is i) }) (cursor (end-is i)))
+        ∙ (λ i. Whole (kind-is i) (size-is i) (sym place-is i) (cursor (end-is i)))
 
 -- ---- and the other way
 pub was-stop : (at p : ℕ) (x : Walk.Step Tlv) → asStep at x ≡ Stop p → (x ≡ stop) × (p ≡ at)
@@ -103,8 +101,12 @@ was-bad at d stop q = (d, cc, cc)
 was-bad at d (bad r) q = (r, refl, cc)
 was-bad at d (item t) q = (d, cc, cc)
 
-pub was-whole : (at : ℕ) (u : PeerUpNotificationTlv) (c : Cursor) (x : Walk.Step Tlv) → asStep at x ≡ Whole u c
-    → (t : Tlv) × (x ≡ item t) × (entry at t ≡ u) × (at + sizeOf t ≡ c .at)
-was-whole at u c stop q = let z : _≡_ {A = ℕ} 0 1 = cc in absurd (omega arith)
-was-whole at u c (bad r) q = let z : _≡_ {A = ℕ} 0 1 = cc in absurd (omega arith)
-was-whole at u c (item t) q = (t, refl, cc, cc)
+pub was-whole : (at kind size place : ℕ) (c : Cursor) (x : Walk.Step Tlv) → asStep at x ≡ Whole kind size place c
+    → (t : Tlv) × (x ≡ item t) × (entry at t ≡ shownTlv kind size place) × (at + sizeOf t ≡ c .at)
+was-whole at kind size place c stop q = let z : _≡_ {A = ℕ} 0 1 = cc in absurd (omega arith)
+was-whole at kind size place c (bad r) q = let z : _≡_ {A = ℕ} 0 1 = cc in absurd (omega arith)
+was-whole at kind size place c (item t) q =
+    let kind-is : t .kind ≡ kind = cc in
+    let size-is : t .size ≡ size = cc in
+    let place-is : at + 4 ≡ place = cc in
+    (t, refl, λ i. shownTlv (kind-is i) (size-is i) (place-is i), cc)

@@ -16,7 +16,6 @@ use Rattle.peer_up_notification.specs.Grammar.{messageBytes, joinTlvs, s
 use Rattle.peer_up_notification.specs.Shown.{entry, zeroTlv, receivedAt, tlvsAt}
 use Rattle.peer_up_notification.specs.Told.{openOf, toldTlv}
 use Rattle.peer_up_notification.specs.Read.{kit, reader}
-use Rattle.peer_up_notification.proofs.Names.{kind-told}
 use Rattle.peer_up_notification.proofs.Laws.{laws}
 use Rattle.peer_up_notification.proofs.Opens.{message-long, open-join}
 use Rattle.peer_up_notification.proofs.Shows.{sent-at, received-at}
@@ -24,7 +23,7 @@ use Rattle.peer_up_notification.proofs.Shows.{sent-at, received-at}
 tlv-told : (s : List ℕ) (at : ℕ) (t : Tlv) (r : List ℕ) → ReadTlv t r → drop at s ≡ putTlv t r → toldTlv (viewed s) (entry at t) ≡ t
 tlv-told s at t r g e =
     let value-is = tlv-viewed t r g s at e in
-    λ i. record { kind = kind-told (t .kind) i; size = t .size; value = value-is i }
+    λ i. record { kind = t .kind; size = t .size; value = value-is i }
 
 pub told-back : (afi : Afi) (peer : BmpPeerType) → Told (reader afi peer)
 told-back afi peer r g f =

@@ -1,6 +1,6 @@
 -- What the reader answers, for every input.
 use Prim.Native.Nat.{ℕ, _+_, _-_}
-use mathlib.Core.Bool.{_||_}
+use mathlib.Core.Bool.{not, _||_}
 use mathlib.Core.List.{List, [], _∷_, map}
 use lib.ListN.{length, take, drop}
 use lib.Dec.{ltb}
@@ -18,11 +18,12 @@ use Rattle.wire.specs.Exactly.{Reader}
 use Rattle.layout.specs.Layout.{cutIn, sixteenAt}
 use Rattle.addresses.specs.Address.{shownIp}
 use Rattle.models.specs.declared.Afi.{Afi}
+use Rattle.peer_type.specs.Peer.{kindOf, isLocRib}
 use Rattle.peer_type.specs.declared.BmpPeerType.{BmpPeerType}
 use Rattle.peer_up_notification.specs.Grammar.{widths, places, grammar}
 use Rattle.peer_up_notification.specs.Warnings.{Head, some, isTableName, badTableName, warningsOf}
 use Rattle.peer_up_notification.specs.Told as Told
-use Rattle.peer_up_notification.specs.Shown.{kindOf, entry, zeroTlv, sentAt, messageOf, goodAnswer, refusedAnswer, shown}
+use Rattle.peer_up_notification.specs.Shown.{entry, zeroTlv, sentAt, messageOf, goodAnswer, refusedAnswer, shown}
 use Rattle.peer_up_notification.specs.declared.PeerUpNotificationTlv.{PeerUpNotificationTlv}
 use Rattle.peer_up_notification.specs.declared.PeerUpAnswer.{PeerUpAnswer}
 use Rattle.peer_up_notification.specs.declared.Front.{Front}
@@ -65,18 +66,18 @@ widthsIn s = tlvWidths (numAt 2 s 2)
 abbrev pub kit : Kit
 kit = record { Item = Tlv; Entry = PeerUpNotificationTlv; step = step; size = sizeOf; entry = entry; none = zeroTlv; limit = places }
 
--- one step at a place, as the code answers it: the stop, the fault, or the entry and the cursor past it
+-- one step at a place, as the code answers it: the stop, the fault, or the numbers of the entry and the cursor past it
 abbrev pub asStep : ℕ → Walk.Step Tlv → Step
 asStep at stop = Stop at
 asStep at (bad r) = Bad (from at r)
-asStep at (item t) = Whole (entry at t) (cursor (at + sizeOf t))
+asStep at (item t) = Whole (t .kind) (t .size) (at + 4) (cursor (at + sizeOf t))
 
 abbrev pub stepAt : List ℕ → ℕ → Step
 stepAt s at = asStep at (step (drop at s))
 
 -- the warnings of a table's entries
 abbrev pub headIn : PeerUpNotificationTlv → Head
-headIn t = (kindOf (t .«info_type»), t .«info_len»)
+headIn t = (t .kind, t .«info_len»)
 
 abbrev pub headsIn : List PeerUpNotificationTlv → List Head
 headsIn l = map headIn l
@@ -90,6 +91,10 @@ namesOf l = record { some = some isTableName l; bad = some badTableName l }
 
 abbrev pub heardOf : TableNames → Head → TableNames
 heardOf names h = record { some = names .some || isTableName h; bad = names .bad || badTableName h }
+
+-- the word of what was heard
+abbrev pub wordOf : BmpPeerType → TableNames → ℕ
+wordOf peer names = pick (isLocRib (kindOf peer)) (pick (names .bad) 8 0 + pick (not (names .some)) 16 0) 0
 
 -- ---- one after the other
 abbrev pub withTlvs : BmpPeerType → Front → Out PeerUpNotificationTlv → PeerUpAnswer

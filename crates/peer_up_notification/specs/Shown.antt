@@ -7,6 +7,7 @@ use Rattle.wire.specs.View.{view}
 use Rattle.wire.specs.Parts.{shownFrom, endFrom}
 use Rattle.wire.specs.Tlv.{Tlv, sizeOf}
 use Rattle.wire.specs.declared.Refusal.{Refusal}
+use Rattle.wire.specs.declared.View.{View}
 use Rattle.models.specs.Address.{unspecified}
 use Rattle.models.specs.declared.Afi.{Afi}
 use Rattle.models.specs.declared.IpAddr.{IpAddr}
@@ -35,15 +36,23 @@ kindOf VrTableName = 3
 kindOf AdminLabel = 4
 kindOf (Unknown n) = n
 
+-- the entry of three numbers: the type, the length, and the place of the value
+abbrev pub shownTlv : ℕ → ℕ → ℕ → PeerUpNotificationTlv
+shownTlv kind size place = record { kind = kind; «info_len» = size; place = place }
+
 abbrev pub zeroTlv : PeerUpNotificationTlv
-zeroTlv = record { «info_type» = String; «info_len» = 0; «info_value» = view 0 0 }
+zeroTlv = shownTlv 0 0 0
 
 unfoldable pub zeroTable : List PeerUpNotificationTlv
 zeroTable = replicate places zeroTlv
 
 -- a TLV as the table shows it, where it starts at a place
 abbrev pub entry : ℕ → Tlv → PeerUpNotificationTlv
-entry at t = record { «info_type» = typeOf (t .kind); «info_len» = t .size; «info_value» = view (at + 4) (t .size) }
+entry at t = shownTlv (t .kind) (t .size) (at + 4)
+
+-- the view of an entry's value
+abbrev pub infoOf : PeerUpNotificationTlv → View
+infoOf t = view (t .place) (t .«info_len»)
 
 -- an address with zeros before it, where bytes are skipped
 abbrev pub shownAddress : Afi → List ℕ → IpAddr

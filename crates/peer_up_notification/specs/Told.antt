@@ -9,7 +9,7 @@ use Rattle.wire.specs.Tlv.{Tlv}
 use Rattle.wire.specs.declared.View.{View}
 use Rattle.models.specs.declared.IpAddr.{IpAddr}
 use Rattle.peer_up_notification.specs.Grammar.{Message, skippedFor, Reading}
-use Rattle.peer_up_notification.specs.Shown.{kindOf}
+use Rattle.peer_up_notification.specs.Shown.{infoOf}
 use Rattle.peer_up_notification.specs.declared.PeerUpNotificationTlv.{PeerUpNotificationTlv}
 use Rattle.peer_up_notification.specs.declared.PeerUpNotification.{PeerUpNotification}
 use Rattle.peer_up_notification.specs.declared.PeerUpAnswer.{PeerUpAnswer}
@@ -22,7 +22,7 @@ abbrev pub openOf : List ℕ → Message
 openOf s = record { marker = take 16 s; size = numAt 2 s 16; rest = drop 18 s }
 
 abbrev pub toldTlv : (View → List ℕ) → PeerUpNotificationTlv → Tlv
-toldTlv look t = record { kind = kindOf (t .«info_type»); size = t .«info_len»; value = look (t .«info_value») }
+toldTlv look t = record { kind = t .kind; size = t .«info_len»; value = look (infoOf t) }
 
 abbrev pub toldMessage : (View → List ℕ) → PeerUpNotification → List ℕ → List ℕ → Reading
 toldMessage look m skipped tail =

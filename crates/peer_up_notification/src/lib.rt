@@ -1,23 +1,25 @@
 // The body of a BMP Peer Up notification (RFC 7854, section 4.10), behind the per-peer header.
 use cursor::Cursor;
-use cursor::ReadU16;
 use models::Afi;
 use models::IpAddr;
 use peer_type::BmpPeerType;
+use tlv_head::TlvHead;
 use wire::Refusal;
 use wire::View;
 ghost use mathlib.Core.Path.{_≡_};
 ghost use mathlib.Core.Bool.{not, _||_};
+ghost use mathlib.Core.List.{[]};
 ghost use Prim.Native.Nat.{_+_, _≤_};
 ghost use lib.Dec.{eqb, ltb};
-ghost use lib.ListN.{length, take};
+ghost use lib.ListN.{length};
+ghost use Rattle.wire.specs.Number as Number;
 ghost use Rattle.wire.specs.Bytes.{pick};
 ghost use Rattle.wire.specs.Refusal.{refusal};
 ghost use Rattle.wire.specs.Walk.{readFrom};
 ghost use Rattle.layout.specs.Layout.{cutIn};
 ghost use Rattle.peer_up_notification.specs.Grammar.{widths};
-ghost use Rattle.peer_up_notification.specs.Shown.{typeOf, kindOf, zeroTlv, messageOf, goodAnswer, refusedAnswer, kept};
-ghost use Rattle.peer_up_notification.specs.Read.{openAt, frontOf, stepAt, kit, headIn, headsIn, warningsIn, namesOf, heardOf, withTlvs, withReceived, readPeerUp};
+ghost use Rattle.peer_up_notification.specs.Shown.{typeOf, kindOf, shownTlv, infoOf, refusedAnswer};
+ghost use Rattle.peer_up_notification.specs.Read.{openAt, frontOf, stepAt, kit, namesOf, heardOf, wordOf, withTlvs, withReceived, readPeerUp};
 
 // 1 and 2 are the names of an Initiation message, whose numbers Peer Up shared before RFC 9736.
 pub enum PeerUpTlvType {
@@ -29,10 +31,11 @@ pub enum PeerUpTlvType {
     Unknown(u16),
 }
 
+// A TLV as the wire has it: its type, its length, and the place of its value.
 pub struct PeerUpNotificationTlv {
-    pub info_type: PeerUpTlvType,
+    pub kind: u16,
     pub info_len: u16,
-    pub info_value: View,
+    pub place: u32,
 }
 
 pub struct PeerUpNotification {
@@ -58,6 +61,9 @@ const BAD_TABLE_NAME: u32 = 8;
 
 const NO_TABLE_NAME: u32 = 16;
 
+// The type of a TLV that tells the name of a table.
+const TABLE_NAME: u16 = 3;
+
 // What stands before the TLVs.
 struct Front {
     local_addr: IpAddr,
@@ -73,11 +79,11 @@ enum Open {
     Found(View, Cursor),
 }
 
-// What stands at a place of the walk: its end with the stop place, a fault, or a TLV and the cursor past it.
+// What stands at a place of the walk: its end with the stop place, a fault, or the three numbers of a TLV and the cursor past it.
 enum Step {
     Stop(usize),
     Bad(Refusal),
-    Whole(PeerUpNotificationTlv, Cursor),
+    Whole(u16, u16, u32, Cursor),
 }
 
 // What TLVs say of a table's name: that there is one, and that one has a bad length.
@@ -86,6 +92,50 @@ struct TableNames {
     bad: bool,
 }
 
+impl PeerUpTlvType {
+    // The number that stands for the type on the wire.
+    pub fn number(self) -> u16
+        ensures { λ r. ⌜ r ≡ kindOf self ⌝ }
+    {
+        match self {
+            PeerUpTlvType::String => 0,
+            PeerUpTlvType::SysDescr => 1,
+            PeerUpTlvType::SysName => 2,
+            PeerUpTlvType::VrTableName => 3,
+            PeerUpTlvType::AdminLabel => 4,
+            PeerUpTlvType::Unknown(n) => n,
+        }
+    }
+}
+
+impl PeerUpNotificationTlv {
+    // The name of the TLV's type.
+    pub fn info_type(self) -> PeerUpTlvType
+        ensures { λ r. ⌜ r ≡ typeOf (self .kind) ⌝ }
+    {
+        let kind = self.kind;
+        match kind {
+            0 => PeerUpTlvType::String,
+            1 => PeerUpTlvType::SysDescr,
+            2 => PeerUpTlvType::SysName,
+            3 => PeerUpTlvType::VrTableName,
+            4 => PeerUpTlvType::AdminLabel,
+            _ => PeerUpTlvType::Unknown(kind),
+        }
+    }
+
+    // Where the value stands.
+    pub fn info_value(self) -> View
+        ensures { λ r. ⌜ r ≡ infoOf self ⌝ }
+    {
+        View {
+            place: self.place as usize,
+            length: self.info_len as usize,
+        }
+    }
+}
+
+// Reads the body, by the family of its address and the type of its peer, which the per-peer header tells.
 pub fn parse_peer_up_notification(s: &[u8], afi: Afi, peer_type: BmpPeerType) -> PeerUpAnswer
     ensures { λ r. ⌜ r ≡ readPeerUp afi «peer_type» (now (s .entry)) ⌝ }
 {
@@ -143,6 +193,7 @@ fn read_received(
     sent_open: View,
     start: Cursor,
 ) -> PeerUpAnswer
+    requires { ⌜ length (now s) ≤ Number.limit ⌝ }
     ensures { λ r. ⌜ r ≡ withReceived afi «peer_type» (now (s .entry)) «sent_open» (openAt (now (s .entry)) (start .at)) ⌝ }
 {
     match open_at(s, start.at) {
@@ -172,115 +223,87 @@ fn front_of(s: &[u8], afi: Afi, sent_open: View, received_open: View) -> Front
 }
 
 fn read_tlvs(s: &[u8], peer_type: BmpPeerType, front: Front, start: Cursor) -> PeerUpAnswer
-    requires { ⌜ start .at ≤ length (now s) ⌝ }
+    requires { ⌜ (start .at ≤ length (now s)) × (length (now s) ≤ Number.limit) ⌝ }
     ensures { λ r. ⌜ r ≡ withTlvs «peer_type» front (readFrom kit (length (now (s .entry))) (start .at) (now (s .entry))) ⌝ }
 {
-    let zero = zero_tlv();
+    let zero = tlv_of(0, 0, 0);
     let mut tlvs = [zero; 32];
+    let mut names = no_names();
     let mut count: usize = 0;
     let mut at = start.at;
     let stop = loop {
         match step_at(s, at) {
             Step::Stop(place) => break place,
             Step::Bad(refusal) => return refused(refusal),
-            Step::Whole(tlv, next) => {
+            Step::Whole(kind, size, place, next) => {
                 if 32 <= count {
                     return refused(refusal_at(wire::TOO_MANY, at));
                 }
-                tlvs[count] = tlv;
+                tlvs[count] = tlv_of(kind, size, place);
+                names = heard(names, kind, size);
                 count += 1;
                 at = next.at;
             }
         }
     };
-    accepted(peer_type, front, stop, tlvs, count)
+    let local_addr = front.local_addr;
+    let sent_open = front.sent_open;
+    let received_open = front.received_open;
+    PeerUpAnswer {
+        refusal: refusal_at(wire::GOOD, 0),
+        stop: stop,
+        warnings: warnings_of(peer_type, names),
+        message: PeerUpNotification {
+            local_addr: local_addr,
+            local_port: front.local_port,
+            remote_port: front.remote_port,
+            sent_open: sent_open,
+            received_open: received_open,
+            tlvs: tlvs,
+            count: count,
+        },
+    }
 }
 
 // Of all walks only this one goes on where exactly 4 bytes are left: a last TLV may be empty.
 fn step_at(s: &[u8], at: usize) -> Step
+    requires { ⌜ length (now s) ≤ Number.limit ⌝ }
     ensures { λ r. ⌜ r ≡ stepAt (now (s .entry)) at ⌝ }
 {
-    if wire::left(s, at) < 4 {
-        return Step::Stop(at);
-    }
     let start = Cursor { at: at };
-    let ReadU16::Good(kind, after_kind) = start.read_u16(s) else {
+    let TlvHead::Found(kind, size, value) = tlv_head::read_head(start, s, 0) else {
         return Step::Stop(at);
     };
-    let ReadU16::Good(size, after_size) = after_kind.read_u16(s) else {
-        return Step::Stop(at);
-    };
-    let place = after_size.at;
+    let place = value.at;
     if wire::left(s, place) < (size as usize) {
         return Step::Bad(wire::cut_at(place));
     }
-    let tlv = PeerUpNotificationTlv {
-        info_type: type_of(kind),
-        info_len: size,
-        info_value: View {
-            place: place,
-            length: size as usize,
-        },
-    };
     Step::Whole(
-        tlv,
+        kind,
+        size,
+        place as u32,
         Cursor {
             at: place + (size as usize),
         },
     )
 }
 
-fn type_of(kind: u16) -> PeerUpTlvType
-    ensures { λ r. ⌜ r ≡ typeOf kind ⌝ }
+fn tlv_of(kind: u16, info_len: u16, place: u32) -> PeerUpNotificationTlv
+    ensures { λ r. ⌜ r ≡ shownTlv kind «info_len» place ⌝ }
 {
-    match kind {
-        0 => PeerUpTlvType::String,
-        1 => PeerUpTlvType::SysDescr,
-        2 => PeerUpTlvType::SysName,
-        3 => PeerUpTlvType::VrTableName,
-        4 => PeerUpTlvType::AdminLabel,
-        _ => PeerUpTlvType::Unknown(kind),
+    PeerUpNotificationTlv {
+        kind: kind,
+        info_len: info_len,
+        place: place,
     }
 }
 
-fn accepted(
-    peer_type: BmpPeerType,
-    front: Front,
-    stop: usize,
-    tlvs: [PeerUpNotificationTlv; 32],
-    count: usize,
-) -> PeerUpAnswer
-    requires { ⌜ count ≤ 32 ⌝ }
-    ensures { λ r. ⌜ r ≡ goodAnswer stop (warningsIn «peer_type» (take count tlvs)) (messageOf front count tlvs) ⌝ }
-{
-    let local_addr = front.local_addr;
-    let sent_open = front.sent_open;
-    let received_open = front.received_open;
-    let message = PeerUpNotification {
-        local_addr: local_addr,
-        local_port: front.local_port,
-        remote_port: front.remote_port,
-        sent_open: sent_open,
-        received_open: received_open,
-        tlvs: tlvs,
-        count: count,
-    };
-    PeerUpAnswer {
-        refusal: refusal_at(wire::GOOD, 0),
-        stop: stop,
-        warnings: warnings_of(peer_type, message),
-        message: message,
-    }
-}
-
-fn warnings_of(peer_type: BmpPeerType, message: PeerUpNotification) -> u32
-    requires { ⌜ message .count ≤ 32 ⌝ }
-    ensures { λ r. ⌜ r ≡ warningsIn «peer_type» (kept message) ⌝ }
+fn warnings_of(peer_type: BmpPeerType, names: TableNames) -> u32
+    ensures { λ r. ⌜ r ≡ wordOf «peer_type» names ⌝ }
 {
     if peer_type.number() != peer_type::LOCAL_RIB {
         return 0;
     }
-    let names = names_in(message);
     word_of(names.bad, names.some)
 }
 
@@ -298,47 +321,24 @@ fn word_of(bad: bool, some: bool) -> u32
     }
 }
 
-fn names_in(message: PeerUpNotification) -> TableNames
-    requires { ⌜ message .count ≤ 32 ⌝ }
-    ensures { λ r. ⌜ r ≡ namesOf (headsIn (kept message)) ⌝ }
+fn no_names() -> TableNames
+    ensures { λ r. ⌜ r ≡ namesOf [] ⌝ }
 {
-    let count = message.count;
-    let mut names = TableNames {
+    TableNames {
         some: false,
         bad: false,
-    };
-    let mut i: usize = 0;
-    while i < count {
-        let tlv = message.tlvs[i];
-        names = heard(names, tlv);
-        i += 1;
     }
-    names
 }
 
-fn heard(names: TableNames, tlv: PeerUpNotificationTlv) -> TableNames
-    ensures { λ r. ⌜ r ≡ heardOf names (headIn tlv) ⌝ }
+fn heard(names: TableNames, kind: u16, size: u16) -> TableNames
+    ensures { λ r. ⌜ r ≡ heardOf names (kind, size) ⌝ }
 {
-    let kind = tlv.info_type;
-    if !is_table_name(kind) {
+    if kind != TABLE_NAME {
         return names;
     }
     TableNames {
         some: true,
-        bad: names.bad || is_bad_length(tlv.info_len),
-    }
-}
-
-fn is_table_name(kind: PeerUpTlvType) -> bool
-    ensures { λ r. ⌜ r ≡ eqb (kindOf kind) 3 ⌝ }
-{
-    match kind {
-        PeerUpTlvType::String => false,
-        PeerUpTlvType::SysDescr => false,
-        PeerUpTlvType::SysName => false,
-        PeerUpTlvType::VrTableName => true,
-        PeerUpTlvType::AdminLabel => false,
-        PeerUpTlvType::Unknown(n) => n == 3,
+        bad: names.bad || is_bad_length(size),
     }
 }
 
@@ -348,23 +348,10 @@ fn is_bad_length(size: u16) -> bool
     size == 0 || 255 < size
 }
 
-fn zero_tlv() -> PeerUpNotificationTlv
-    ensures { λ r. ⌜ r ≡ zeroTlv ⌝ }
-{
-    PeerUpNotificationTlv {
-        info_type: PeerUpTlvType::String,
-        info_len: 0,
-        info_value: View {
-            place: 0,
-            length: 0,
-        },
-    }
-}
-
 fn refused(refusal: Refusal) -> PeerUpAnswer
     ensures { λ r. ⌜ r ≡ refusedAnswer refusal ⌝ }
 {
-    let zero = zero_tlv();
+    let zero = tlv_of(0, 0, 0);
     let none = View {
         place: 0,
         length: 0,

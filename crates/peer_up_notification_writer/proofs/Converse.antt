@@ -25,7 +25,7 @@ use Rattle.models.specs.declared.IpAddr.{IpAddr}
 use Rattle.models.proofs.Promises.{equals-is-equality}
 use Rattle.peer_type.specs.declared.BmpPeerType.{BmpPeerType}
 use Rattle.peer_up_notification.specs.Grammar.{messageBytes, ReadTlv, skippedFor, Reading, join, places}
-use Rattle.peer_up_notification.specs.Shown.{kindOf, zeroTlv, entry, tlvsAt, shownAddress, shown, kept}
+use Rattle.peer_up_notification.specs.Shown.{infoOf, zeroTlv, entry, tlvsAt, shownAddress, shown, kept}
 use Rattle.peer_up_notification.specs.Told.{openOf}
 use Rattle.peer_up_notification.specs.Read.{reader}
 use Rattle.peer_up_notification_writer.specs.Write.{partOf, addressWritable, openWritable, writer, bytesOf, tlvsWritable, writable, entryOf, Typed, SameTlv, Same}
@@ -33,7 +33,6 @@ use Rattle.peer_up_notification.specs.declared.PeerUpNotificationTlv.{PeerUpNot
 use Rattle.peer_up_notification.specs.declared.PeerUpNotification.{PeerUpNotification}
 use Rattle.peer_up_notification.specs.declared.PeerUpAnswer.{PeerUpAnswer}
 use Rattle.peer_up_notification.proofs.Address.{address-shown}
-use Rattle.peer_up_notification.proofs.Names.{kind-told}
 use Rattle.peer_up_notification.proofs.Opens.{OneMessage, one-message}
 use Rattle.peer_up_notification_writer.proofs.Written.{fine-from, translates, open-from}
 use Rattle.peer_up_notification.proofs.Shows.{ViewAt, ShowsParts}
@@ -46,7 +45,7 @@ Within b v = v .place + v .length ≤ length b
 pub record Inside (m : PeerUpNotification) (b : List ℕ) : Type 0 where
   pub sent-inside : Within b (m .«sent_open»)
   pub received-inside : Within b (m .«received_open»)
-  pub tlvs-inside : (i : ℕ) → i < m .count → Within b (getD (m .tlvs) i zeroTlv .«info_value»)
+  pub tlvs-inside : (i : ℕ) → i < m .count → Within b (infoOf (getD (m .tlvs) i zeroTlv))
 
 -- a view that shows a message is writable
 fine-open : {b : List ℕ} → Bytes b → (v : View) → Within b v → OneMessage (viewed b v) → openWritable b v ≡ true
@@ -62,16 +61,16 @@ fine-open {b} p v inside o =
 
 -- entries whose items are good are writable, whatever follows them
 all-fine : (b : List ℕ) (l : List PeerUpNotificationTlv) (z : List ℕ) → EachGood putTlv ReadTlv (parts writer b l) z
-    → ((i : ℕ) → i < length l → Within b (getD l i zeroTlv .«info_value»)) → allOk writer (length b) l ≡ true
+    → ((i : ℕ) → i < length l → Within b (infoOf (getD l i zeroTlv))) → allOk writer (length b) l ≡ true
 all-fine b [] z g h = refl
 all-fine b (t ∷ l) z g h =
-    rw (fine-from (length b) t (good-fits _ _ (t .«info_value») b (g .0) (h 0 (omega arith))))
+    rw (fine-from (length b) t (good-fits _ _ (infoOf t) b (g .0) (h 0 (omega arith))))
     (all-fine b l z (g .1) (λ i e. h (suc i) (omega arith)))
 
 -- an item that is shown as an entry is that entry's
 one-part : (b s : List ℕ) (at : ℕ) (x : Tlv) (t : PeerUpNotificationTlv) → ViewAt s at x → SameTlv t b (entry at x) s → x ≡ partOf b t
 one-part b s at x t v e =
-    let kind-is : x .kind ≡ kindOf (t .«info_type») = sym (e .kind-same ∙ kind-told (x .kind)) in
+    let kind-is : x .kind ≡ t .kind = sym (e .kind-same) in
     let value-is = sym (e .bytes-same ∙ v) in
     λ i. record { kind = kind-is i; size = sym (e .len-same) i; value = value-is i }
 
@@ -124,7 +123,7 @@ module _ (peer : BmpPeerType) (m : PeerUpNotification) (b : List ℕ) (p : Bytes
       (kept-each (λ i t. SameTlv t b (getD (shown (m .«local_addr» .afi) peer q .message .tlvs) i zeroTlv) s) (m .tlvs) (m .count) zeroTlv (same .tlv-same)) in
       rw (le-ltb places (m .count) few) (all-fine b (kept m) (q .tail)
       (subst (λ (l : List Tlv). EachGood putTlv ReadTlv l (q .tail)) each (x .reading .is-good .each))
-      (kept-each (λ i t. Within b (t .«info_value»)) (m .tlvs) (m .count) zeroTlv (inside .tlvs-inside)))
+      (kept-each (λ i t. Within b (infoOf t)) (m .tlvs) (m .count) zeroTlv (inside .tlvs-inside)))
 
   all-fits : writable m b ≡ true
   all-fits =

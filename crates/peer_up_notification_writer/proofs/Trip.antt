@@ -18,13 +18,12 @@ use Rattle.writing.proofs.Trip.{each-same, end-sizes}
 use Rattle.tlv_table.proofs.Translated.{length-translated}
 use Rattle.peer_type.specs.declared.BmpPeerType.{BmpPeerType}
 use Rattle.peer_up_notification.specs.Grammar.{ReadTlv, skippedFor, Good}
-use Rattle.peer_up_notification.specs.Shown.{kindOf, zeroTlv, entry, tlvsAt, shown, kept}
+use Rattle.peer_up_notification.specs.Shown.{zeroTlv, entry, tlvsAt, shown, kept}
 use Rattle.peer_up_notification.specs.Read.{readPeerUp}
 use Rattle.peer_up_notification_writer.specs.Write.{writer, readingOf, bytesOf, entryOf, Typed, SameTlv, Same}
 use Rattle.peer_up_notification.specs.declared.PeerUpNotificationTlv.{PeerUpNotificationTlv}
 use Rattle.peer_up_notification.specs.declared.PeerUpNotification.{PeerUpNotification}
 use Rattle.peer_up_notification.specs.declared.PeerUpAnswer.{PeerUpAnswer}
-use Rattle.peer_up_notification.proofs.Names.{kind-told}
 use Rattle.peer_up_notification.proofs.Opens.{open-good, open-back}
 use Rattle.peer_up_notification_writer.proofs.Written.{fine-of, translates, one-of, Writes, length-bytes}
 use Rattle.peer_up_notification.proofs.Shows.{address-field, ViewAt, ShowsParts}
@@ -76,7 +75,7 @@ reads-back peer m b p t w a v =
             subst (λ (t : PeerUpNotificationTlv). SameTlv t b (getD (shown (m .«local_addr» .afi) peer (readingOf m b) .message .tlvs) i zeroTlv) s)
             (getD-take (m .count) (m .tlvs) i zeroTlv h)
             (each-same writer sizeOf entry (ViewAt s) b (λ t u. SameTlv t b u s) zeroTlv
-            (λ n at t o e. record { kind-same = sym (kind-told (kindOf (t .«info_type»))); len-same = refl; bytes-same = sym e }) _
+            (λ n at t o e. record { kind-same = refl; len-same = refl; bytes-same = sym e }) _
             (kept m) (tlvsAt (readingOf m b)) i fine (v .tlvs-shown) (omega (arith, k, h)));
       });
     }

@@ -31,7 +31,7 @@ use Rattle.addresses.specs.Address.{shownIp}
 use Rattle.models.specs.declared.IpAddr.{IpAddr}
 use Rattle.models.proofs.Promises.{equals-is-equality}
 use Rattle.peer_up_notification.specs.Grammar.{messageBytes, skippedFor, places}
-use Rattle.peer_up_notification.specs.Shown.{kindOf, shownAddress, kept}
+use Rattle.peer_up_notification.specs.Shown.{infoOf, shownAddress, kept}
 use Rattle.peer_up_notification.specs.Told.{openOf}
 use Rattle.peer_up_notification_writer.specs.Write.{addressWritable, openWritable, tlvWritable, writer, bytesOf, tlvsWritable, frontWritable, writable, frontBytes, frontLength, entryOf, tableOf}
 use Rattle.peer_up_notification.specs.declared.PeerUpNotificationTlv.{PeerUpNotificationTlv}
@@ -40,11 +40,11 @@ use Rattle.peer_up_notification.proofs.Address.{address-shown}
 use Rattle.peer_up_notification.proofs.Opens.{OneMessage, open-back}
 
 -- ---- one TLV
-pub fine-of : (room : ℕ) (t : PeerUpNotificationTlv) → tlvWritable room t ≡ true → TlvFits (kindOf (t .«info_type»)) (t .«info_len») (t .«info_value») room
+pub fine-of : (room : ℕ) (t : PeerUpNotificationTlv) → tlvWritable room t ≡ true → TlvFits (t .kind) (t .«info_len») (infoOf t) room
 unfolding tlvWritable
 fine-of room t e = fits-of _ _ _ _ e
 
-pub fine-from : (room : ℕ) (t : PeerUpNotificationTlv) → TlvFits (kindOf (t .«info_type»)) (t .«info_len») (t .«info_value») room → tlvWritable room t ≡ true
+pub fine-from : (room : ℕ) (t : PeerUpNotificationTlv) → TlvFits (t .kind) (t .«info_len») (infoOf t) room → tlvWritable room t ≡ true
 unfolding tlvWritable
 fine-from room t f = fits-from _ _ _ _ f
 

@@ -18,14 +18,14 @@ use Rattle.addresses.specs.Address.{shownIp}
 use Rattle.models.specs.Address.{sameAddress}
 use Rattle.models.specs.declared.IpAddr.{IpAddr}
 use Rattle.peer_up_notification.specs.Grammar.{skippedFor, Reading, join, places}
-use Rattle.peer_up_notification.specs.Shown.{kindOf, zeroTlv, kept}
+use Rattle.peer_up_notification.specs.Shown.{infoOf, zeroTlv, kept}
 use Rattle.peer_up_notification.specs.Told.{openOf}
 use Rattle.peer_up_notification.specs.declared.PeerUpNotificationTlv.{PeerUpNotificationTlv}
 use Rattle.peer_up_notification.specs.declared.PeerUpNotification.{PeerUpNotification}
 
 -- ---- the reading of a record whose views point into a buffer
 abbrev pub partOf : List ℕ → PeerUpNotificationTlv → Tlv
-partOf b t = record { kind = kindOf (t .«info_type»); size = t .«info_len»; value = viewed b (t .«info_value») }
+partOf b t = record { kind = t .kind; size = t .«info_len»; value = viewed b (infoOf t) }
 
 -- ---- an address is writable where it is the one that its octets show: where bytes are skipped, they are zero
 abbrev pub addressWritable : IpAddr → Bool
@@ -38,7 +38,7 @@ openWritable b v =
 
 -- ---- a TLV is writable, by the buffer's length, where it can be written from its view
 unfoldable pub tlvWritable : ℕ → PeerUpNotificationTlv → Bool
-tlvWritable room t = tlvFits (kindOf (t .«info_type»)) (t .«info_len») (t .«info_value») room
+tlvWritable room t = tlvFits (t .kind) (t .«info_len») (infoOf t) room
 
 abbrev pub writer : Writer
 writer =
@@ -91,7 +91,7 @@ frontLength m = 20 + (m .«sent_open» .length + m .«received_open» .length)
 
 -- ---- the table of TLVs that is written for a record
 abbrev pub entryOf : PeerUpNotificationTlv → TlvEntry
-entryOf t = record { kind = kindOf (t .«info_type»); size = t .«info_len»; value = Part (t .«info_value») }
+entryOf t = record { kind = t .kind; size = t .«info_len»; value = Part (infoOf t) }
 
 abbrev pub tableOf : PeerUpNotification → TlvTable
 tableOf m = record { tlvs = map entryOf (m .tlvs); count = m .count; least = 0; «empty_last» = true }
@@ -106,9 +106,9 @@ pub record Typed (m : PeerUpNotification) : Type 0 where
 -- ---- two records are the same: their numbers (in the table those below the count), and the bytes that their views show, each in its
 -- own buffer
 pub record SameTlv (t : PeerUpNotificationTlv) (b : List ℕ) (u : PeerUpNotificationTlv) (s : List ℕ) : Type 0 where
-  pub kind-same : kindOf (t .«info_type») ≡ kindOf (u .«info_type»)
+  pub kind-same : t .kind ≡ u .kind
   pub len-same : t .«info_len» ≡ u .«info_len»
-  pub bytes-same : viewed b (t .«info_value») ≡ viewed s (u .«info_value»)
+  pub bytes-same : viewed b (infoOf t) ≡ viewed s (infoOf u)
 
 pub record Same (m : PeerUpNotification) (b : List ℕ) (n : PeerUpNotification) (s : List ℕ) : Type 0 where
   pub address-same : m .«local_addr» ≡ n .«local_addr»

@@ -2,7 +2,6 @@
 use models::IpAddr;
 use peer_up_notification::PeerUpNotification;
 use peer_up_notification::PeerUpNotificationTlv;
-use peer_up_notification::PeerUpTlvType;
 use tlv_table::TlvEntry;
 use tlv_table::TlvTable;
 use tlv_table::TlvValue;
@@ -15,9 +14,9 @@ ghost use lib.ListN.{length};
 ghost use lib.Seq.{sets};
 ghost use Rattle.wire.specs.Bytes.{pick};
 ghost use Rattle.writing.specs.Write.{writeAnswer, written};
-ghost use Rattle.peer_up_notification.specs.Shown.{kindOf};
 ghost use Rattle.peer_up_notification_writer.specs.Write.{addressWritable, openWritable, bytesOf, frontWritable, writable, frontBytes, frontLength, entryOf, tableOf};
 
+// Writes the message, whose views point into the buffer, to the front of the output.
 pub fn write_peer_up_notification(
     message: PeerUpNotification,
     buffer: &[u8],
@@ -108,10 +107,9 @@ fn table_of(message: PeerUpNotification) -> TlvTable
 fn entry_of(tlv: PeerUpNotificationTlv) -> TlvEntry
     ensures { λ r. ⌜ r ≡ entryOf tlv ⌝ }
 {
-    let kind = tlv.info_type;
-    let view = tlv.info_value;
+    let view = tlv.info_value();
     TlvEntry {
-        kind: kind_of(kind),
+        kind: tlv.kind,
         size: tlv.info_len,
         value: TlvValue::Part(view),
     }
@@ -134,18 +132,4 @@ fn put_front(message: PeerUpNotification, buffer: &[u8], out: &mut [u8])
     writing::put_bytes(out, 20, sent);
     let received = received_open.part(buffer);
     writing::put_bytes(out, 20 + sent_open.length, received);
-}
-
-// The number that stands for a TLV's type on the wire.
-fn kind_of(kind: PeerUpTlvType) -> u16
-    ensures { λ r. ⌜ r ≡ kindOf kind ⌝ }
-{
-    match kind {
-        PeerUpTlvType::String => 0,
-        PeerUpTlvType::SysDescr => 1,
-        PeerUpTlvType::SysName => 2,
-        PeerUpTlvType::VrTableName => 3,
-        PeerUpTlvType::AdminLabel => 4,
-        PeerUpTlvType::Unknown(n) => n,
-    }
 }

@@ -93,8 +93,8 @@ refuses n at table s d few e =
     ap answer (onwards-bad kit nil n at table s (w .0) few (w .1)) ∙ ap refusedAnswer (w .2)
 
 -- ---- a turn that finds a TLV
-pub onward : (n at : ℕ) (table : List RouteMirroringTlv) (s : List ℕ) (u : RouteMirroringTlv) (c : Cursor)
-    → n ≤ at → at ≤ length s → stepAt s at ≡ Whole u c → TurnTo kit takes n at table s u (c .at)
-onward n at table s u c few h e =
-    let w = was-whole at u c (step (drop at s)) e in
-    turn-to kit takes n at table s (w .0) u (c .at) few h (w .1) (w .2) (w .3)
+pub onward : (n at : ℕ) (table : List RouteMirroringTlv) (s : List ℕ) (kind size number : ℕ) (c : Cursor) → n ≤ at → at ≤ length s
+    → stepAt s at ≡ Whole kind size number c → TurnTo kit takes n at table s (record { kind = kind; «info_len» = size; number = number }) (c .at)
+onward n at table s kind size number c few h e =
+    let w = was-whole at kind size number c (step (drop at s)) e in
+    turn-to kit takes n at table s (w .0) _ (c .at) few h (w .1) (w .2) (w .3)

@@ -17,9 +17,9 @@ use Rattle.wire.specs.Lacking.{CutAfter}
 use Rattle.route_mirroring.specs.Grammar.{Reading, join, Good, sizeOf, grammar, places, put, ReadTlv}
 use Rattle.route_mirroring.specs.Read.{kit, readMirroring, reader, answer, widthsIn}
 use Rattle.route_mirroring.specs.declared.RouteMirroringAnswer.{RouteMirroringAnswer}
-use Rattle.route_mirroring.specs.Shown.{refusedAnswer}
+use Rattle.route_mirroring.specs.Shown.{infoOf, codeOf, refusedAnswer}
 use Rattle.route_mirroring.proofs.Laws.{faults, laws, tails}
-use Rattle.route_mirroring.proofs.Shows.{shows-of, ViewAt, view-at}
+use Rattle.route_mirroring.proofs.Shows.{shows-of, ViewAt, code-told, view-at}
 use Rattle.route_mirroring.proofs.Told as ToldProofs
 use Rattle.route_mirroring.proofs.Refusals as Refusals
 use Rattle.route_mirroring.proofs.Cuts as Cuts
@@ -58,6 +58,10 @@ unique r q g h e =
 -- In the answer that shows a good reading, the view of each BGP message shows that message's bytes, and each information has its code.
 pub views : (r : Reading) → Good r → AllAt sizeOf (ViewAt (join r)) 0 (r .tlvs)
 views r g = each-at kit laws (ViewAt (join r)) (join r) (view-at (join r)) (r .tlvs) (r .tail) 0 (g .each) refl
+
+-- Each code that the reader accepts is the number of its name.
+pub code-number : (n : ℕ) → n ≤ 1 → codeOf (infoOf n) ≡ n
+code-number = code-told
 
 -- A Cut is at the first part that is not whole, behind TLVs that are.
 pub refuses-cut : (s : List ℕ) → Bytes s → readMirroring s .refusal .number ≡ Number.Cut → CutAfter put ReadTlv sizeOf widthsIn 0 s (readMirroring s .refusal .place)

@@ -12,7 +12,7 @@ use Rattle.wire.proofs.Walk as Walk
 use Rattle.wire.proofs.Arms.{number-of-name}
 use Rattle.wire.specs.Exactly.{Shows}
 use Rattle.route_mirroring.specs.Grammar.{Tlv, bgpMessage, information, put, ReadTlv}
-use Rattle.route_mirroring.specs.Shown.{infoOf, codeOf, entry, names}
+use Rattle.route_mirroring.specs.Shown.{infoOf, codeOf, valueOf, entry, names}
 use Rattle.route_mirroring.specs.Read.{kit, answer, reader}
 use Rattle.route_mirroring.specs.declared.RouteMirroringValue.{RouteMirroringValue}
 use Rattle.route_mirroring.specs.declared.RouteMirroringValue.the-variants.{BgpMessage, Information}
@@ -34,7 +34,7 @@ ShowsValue s (Information i) (bgpMessage size value) = ⊥
 ShowsValue s (Information i) (information size code) = codeOf i ≡ code
 
 abbrev pub ViewAt : List ℕ → ℕ → Tlv → Type 0
-ViewAt s at t = ShowsValue s (entry at t .value) t
+ViewAt s at t = ShowsValue s (valueOf (entry at t)) t
 
 pub code-told : (n : ℕ) → n ≤ 1 → codeOf (infoOf n) ≡ n
 unfolding infoOf codeOf

@@ -9,10 +9,9 @@ use borrow.Author.Tests.{lt-leb, le-leb, lt-ltb, le-ltb, eq-eqb, ne-eqb, leb-tru
 use lib.Dec.{leb, ltb, eqb}
 use lib.ListN.{length, drop, length-drop}
 use Rattle.wire.specs.Number as Number
-use Rattle.wire.specs.Bytes.{pick, numAt}
+use Rattle.wire.specs.Bytes.{pick, has, numAt}
 use Rattle.wire.specs.Refusal.{refusal, cutAt}
-use Rattle.cursor.specs.Read.{cursor}
-use Rattle.wire.specs.View.{view}
+use Rattle.cursor.specs.Read.{Read, got, cut, read, cursor}
 use Rattle.wire.specs.Walk as Walk
 use Rattle.wire.specs.Walk.{stop, bad, item, from}
 use Rattle.wire.specs.declared.Refusal.{Refusal}
@@ -20,9 +19,7 @@ use Rattle.cursor.specs.declared.Cursor.{Cursor}
 use Rattle.route_mirroring.specs.Grammar.{Tlv, sizeOf}
 use Rattle.route_mirroring.specs.Shown.{infoOf, entry}
 use Rattle.route_mirroring.specs.Read.{messageOf, informationOf, messageStep, informationStep, step, asStep, stepAt}
-use Rattle.route_mirroring.specs.declared.RouteMirroringTlv.{RouteMirroringTlv}
 use Rattle.route_mirroring.specs.declared.RouteMirroringInfo.the-variants.{MessageLost}
-use Rattle.route_mirroring.specs.declared.RouteMirroringValue.the-variants.{BgpMessage, Information}
 use Rattle.route_mirroring.specs.declared.Step.the-variants.{Stop, Bad, Whole}
 
 -- every code but 0 gets the last name, as in the last arm of `info_of`
@@ -151,6 +148,14 @@ module _ (s : List ℕ) (at : ℕ) where
     pub information-at : kind ≡ 1 → stepAt s at ≡ asStep at (informationStep (drop at s))
     information-at h = ap (asStep at) (information-of (drop at s) long′ (kind-is ∙ h))
 
+-- a Cut that the cursor made is at its place
+pub cut-is : (w : ℕ) (s : List ℕ) (at : ℕ) {x : Read} {r : Refusal} → x ≡ cut r → x ≡ read w s at → r ≡ cutAt at
+cut-is w s at {x} {r} e f = go (has w s at) (sym e ∙ f)
+  where
+    go : (b : Bool) → cut r ≡ pick b (got (numAt w s at) (cursor (at + w))) (cut (cutAt at)) → r ≡ cutAt at
+    go true q = let z : _≡_ {A = ℕ} 0 1 = cc in absurd (omega arith)
+    go false q = cc
+
 -- ---- each answer of `message_at` and of `information_at`, where the value starts at a place
 module _ (s : List ℕ) (at size : ℕ) (size-is : size ≡ numAt 2 (drop at s) 2) (place : ℕ) (place-is : place ≡ at + 4) where
   pub small-at : size < 19 → asStep at (messageStep (drop at s)) ≡ Bad (refusal Number.BgpLength (at + 2))
@@ -162,12 +167,12 @@ module _ (s : List ℕ) (at size : ℕ) (size-is : size ≡ numAt 2 (drop at s) 
   cut-at h l = rw (← size-is, le-ltb size 19 h, lt-ltb (length (drop at s) - 4) size (simp length-drop (omega arith)), place-is)
 
   pub message-there : 19 ≤ size → size ≤ length s - place
-      → asStep at (messageStep (drop at s)) ≡ Whole (record { «info_len» = size; value = BgpMessage (view place size) }) (cursor (place + size))
+      → asStep at (messageStep (drop at s)) ≡ Whole 0 size place (cursor (place + size))
   unfolding messageStep
   message-there h l =
       let end-is : at + (4 + size) ≡ place + size = omega arith in
       rw (← size-is, le-ltb size 19 h, le-ltb (length (drop at s) - 4) size (simp length-drop (omega arith)))
-      (λ i. Whole (record { «info_len» = size; value = BgpMessage (view (sym place-is i) size) }) (cursor (end-is i)))
+      (λ i. Whole 0 size (sym place-is i) (cursor (end-is i)))
 
   pub short-at : length s - place < 2 → asStep at (informationStep (drop at s)) ≡ Bad (cutAt place)
   unfolding informationStep
@@ -182,7 +187,7 @@ module _ (s : List ℕ) (at size : ℕ) (size-is : size ≡ numAt 2 (drop at s) 
     unknown-at h = rw (le-ltb (length (drop at s) - 4) 2 there′, code-is, lt-ltb 1 code h, place-is)
 
     pub information-there : code ≤ 1 → (after : Cursor) → after .at ≡ place + 2
-        → asStep at (informationStep (drop at s)) ≡ Whole (record { «info_len» = size; value = Information (infoOf code) }) after
+        → asStep at (informationStep (drop at s)) ≡ Whole 1 size code after
     unfolding informationStep
     information-there h after after-is =
         let end-is : at + 6 ≡ after .at = omega arith in
@@ -199,8 +204,12 @@ was-bad at d stop q = (d, cc, cc)
 was-bad at d (bad r) q = (r, refl, cc)
 was-bad at d (item t) q = (d, cc, cc)
 
-pub was-whole : (at : ℕ) (u : RouteMirroringTlv) (c : Cursor) (x : Walk.Step Tlv) → asStep at x ≡ Whole u c
-    → (t : Tlv) × (x ≡ item t) × (entry at t ≡ u) × (at + sizeOf t ≡ c .at)
-was-whole at u c stop q = let z : _≡_ {A = ℕ} 0 1 = cc in absurd (omega arith)
-was-whole at u c (bad r) q = let z : _≡_ {A = ℕ} 0 1 = cc in absurd (omega arith)
-was-whole at u c (item t) q = (t, refl, cc, cc)
+pub was-whole : (at kind size number : ℕ) (c : Cursor) (x : Walk.Step Tlv) → asStep at x ≡ Whole kind size number c
+    → (t : Tlv) × (x ≡ item t) × (entry at t ≡ record { kind = kind; «info_len» = size; number = number }) × (at + sizeOf t ≡ c .at)
+was-whole at kind size number c stop q = let z : _≡_ {A = ℕ} 0 1 = cc in absurd (omega arith)
+was-whole at kind size number c (bad r) q = let z : _≡_ {A = ℕ} 0 1 = cc in absurd (omega arith)
+was-whole at kind size number c (item t) q =
+    let kind-is : entry at t .kind ≡ kind = cc in
+    let size-is : entry at t .«info_len» ≡ size = cc in
+    let number-is : entry at t .number ≡ number = cc in
+    (t, refl, λ i. record { kind = kind-is i; «info_len» = size-is i; number = number-is i }, cc)

@@ -11,6 +11,7 @@ use Rattle.wire.specs.TlvAt.{tlvOf, tlvWidths}
 use Rattle.wire.specs.Walk as Walk
 use Rattle.wire.specs.Walk.{stop, bad, item, from, Kit, Out, good, refused, readFrom}
 use Rattle.wire.specs.Exactly.{Reader}
+use Rattle.cursor.specs.declared.Cursor.{Cursor}
 use Rattle.route_mirroring.specs.Grammar.{Tlv, bgpMessage, information, places, sizeOf, grammar}
 use Rattle.route_mirroring.specs.Told as Told
 use Rattle.route_mirroring.specs.Shown.{entry, zeroTlv, goodAnswer, refusedAnswer, shown}
@@ -52,11 +53,14 @@ widthsIn s = tlvWidths (pick (eqb (numAt 2 s 0) 0) (numAt 2 s 2) 2)
 abbrev pub kit : Kit
 kit = record { Item = Tlv; Entry = RouteMirroringTlv; step = step; size = sizeOf; entry = entry; none = zeroTlv; limit = places }
 
--- one step at a place, as the code answers it: the stop, the fault, or the entry and the cursor past it
+-- one step at a place, as the code answers it: the stop, the fault, or the numbers of the entry and the cursor past it
+abbrev pub wholeOf : RouteMirroringTlv → Cursor → Step
+wholeOf t c = Whole (t .kind) (t .«info_len») (t .number) c
+
 abbrev pub asStep : ℕ → Walk.Step Tlv → Step
 asStep at stop = Stop at
 asStep at (bad r) = Bad (from at r)
-asStep at (item t) = Whole (entry at t) (cursor (at + sizeOf t))
+asStep at (item t) = wholeOf (entry at t) (cursor (at + sizeOf t))
 
 abbrev pub stepAt : List ℕ → ℕ → Step
 stepAt s at = asStep at (step (drop at s))

@@ -2,6 +2,8 @@
 use Prim.Native.Nat.{ℕ, _+_, _-_}
 use mathlib.Core.List.{List, [], _∷_, _++_}
 use lib.ListN.{length, replicate, getD}
+use lib.Dec.{eqb}
+use Rattle.wire.specs.Bytes.{pick}
 use Rattle.wire.specs.Refusal.{noRefusal}
 use Rattle.wire.specs.View.{view}
 use Rattle.wire.specs.Parts.{shownFrom, endFrom}
@@ -9,11 +11,12 @@ use Rattle.wire.specs.declared.Refusal.{Refusal}
 use Rattle.route_mirroring.specs.Grammar.{Tlv, bgpMessage, information, Reading, sizeOf, places}
 use Rattle.route_mirroring.specs.declared.RouteMirroringInfo.{RouteMirroringInfo}
 use Rattle.route_mirroring.specs.declared.RouteMirroringInfo.the-variants.{ErroredPdu, MessageLost}
+use Rattle.route_mirroring.specs.declared.RouteMirroringValue.{RouteMirroringValue}
 use Rattle.route_mirroring.specs.declared.RouteMirroringValue.the-variants.{BgpMessage, Information}
 use Rattle.route_mirroring.specs.declared.RouteMirroringTlv.{RouteMirroringTlv}
 use Rattle.route_mirroring.specs.declared.RouteMirroringAnswer.{RouteMirroringAnswer}
 
--- codes 0 and 1 by their numbers; what is above is refused before it is named
+-- codes 0 and 1 by their numbers; what is above, which no reader shows, gets the last name
 abbrev pub names : List RouteMirroringInfo
 names = ErroredPdu ∷ MessageLost ∷ []
 
@@ -24,16 +27,20 @@ unfoldable pub codeOf : RouteMirroringInfo → ℕ
 codeOf ErroredPdu = 0
 codeOf MessageLost = 1
 
+-- the value of an entry: a BGP message's view where the type is 0, and else information by its code
+abbrev pub valueOf : RouteMirroringTlv → RouteMirroringValue
+valueOf t = pick (eqb (t .kind) 0) (BgpMessage (view (t .number) (t .«info_len»))) (Information (infoOf (t .number)))
+
 abbrev pub zeroTlv : RouteMirroringTlv
-zeroTlv = record { «info_len» = 0; value = BgpMessage (view 0 0) }
+zeroTlv = record { kind = 0; «info_len» = 0; number = 0 }
 
 unfoldable pub zeroTable : List RouteMirroringTlv
 zeroTable = replicate places zeroTlv
 
 -- a TLV as the table shows it, where it starts at a place
 abbrev pub entry : ℕ → Tlv → RouteMirroringTlv
-entry at (bgpMessage size value) = record { «info_len» = size; value = BgpMessage (view (at + 4) size) }
-entry at (information size code) = record { «info_len» = size; value = Information (infoOf code) }
+entry at (bgpMessage size value) = record { kind = 0; «info_len» = size; number = at + 4 }
+entry at (information size code) = record { kind = 1; «info_len» = size; number = code }
 
 abbrev pub goodAnswer : ℕ → ℕ → List RouteMirroringTlv → RouteMirroringAnswer
 goodAnswer count end table = record { refusal = noRefusal; stop = end; message = record { tlvs = table; count = count } }

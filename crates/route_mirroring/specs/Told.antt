@@ -5,7 +5,7 @@ use Rattle.wire.specs.Parts.{itemsIn}
 use Rattle.wire.specs.Exactly.{Nothing}
 use Rattle.wire.specs.declared.View.{View}
 use Rattle.route_mirroring.specs.Grammar.{Tlv, bgpMessage, information, Reading}
-use Rattle.route_mirroring.specs.Shown.{codeOf}
+use Rattle.route_mirroring.specs.Shown.{codeOf, valueOf}
 use Rattle.route_mirroring.specs.declared.RouteMirroringValue.{RouteMirroringValue}
 use Rattle.route_mirroring.specs.declared.RouteMirroringValue.the-variants.{BgpMessage, Information}
 use Rattle.route_mirroring.specs.declared.RouteMirroringTlv.{RouteMirroringTlv}
@@ -16,7 +16,7 @@ toldValue look size (BgpMessage v) = bgpMessage size (look v)
 toldValue look size (Information i) = information size (codeOf i)
 
 abbrev pub toldTlv : (View → List ℕ) → RouteMirroringTlv → Tlv
-toldTlv look t = toldValue look (t .«info_len») (t .value)
+toldTlv look t = toldValue look (t .«info_len») (valueOf t)
 
 abbrev pub told : (View → List ℕ) → RouteMirroringAnswer → Nothing → List ℕ → Reading
 told look a x tail = record { tlvs = itemsIn (toldTlv look) (a .message .count) (a .message .tlvs); tail = tail }

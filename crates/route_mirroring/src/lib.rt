@@ -1,14 +1,16 @@
 // The body of a BMP Route Mirroring message (RFC 7854, section 4.7), behind the per-peer header.
 use cursor::Cursor;
 use cursor::ReadU16;
+use tlv_head::TlvHead;
 use wire::Refusal;
 use wire::View;
 ghost use mathlib.Core.Path.{_≡_};
-ghost use Prim.Native.Nat.{_+_};
-ghost use lib.ListN.{drop};
+ghost use Prim.Native.Nat.{_+_, _≤_};
+ghost use lib.ListN.{length, drop};
+ghost use Rattle.wire.specs.Number as Number;
 ghost use Rattle.wire.specs.Bytes.{numAt};
 ghost use Rattle.wire.specs.Refusal.{refusal};
-ghost use Rattle.route_mirroring.specs.Shown.{infoOf, zeroTlv, refusedAnswer};
+ghost use Rattle.route_mirroring.specs.Shown.{infoOf, codeOf, valueOf, zeroTlv, refusedAnswer};
 ghost use Rattle.route_mirroring.specs.Read.{messageStep, informationStep, asStep, stepAt, readMirroring};
 
 pub enum RouteMirroringInfo {
@@ -21,9 +23,11 @@ pub enum RouteMirroringValue {
     Information(RouteMirroringInfo),
 }
 
+// A TLV as the wire has it: its type, its length, and the place of a BGP message or the code of information.
 pub struct RouteMirroringTlv {
+    pub kind: u16,
     pub info_len: u16,
-    pub value: RouteMirroringValue,
+    pub number: u32,
 }
 
 pub struct RouteMirroring {
@@ -38,13 +42,42 @@ pub struct RouteMirroringAnswer {
     pub message: RouteMirroring,
 }
 
-// What stands at a place of the walk: its end with the stop place, a fault, or a TLV and the cursor past it.
+// What stands at a place of the walk: its end with the stop place, a fault, or the three numbers of a TLV and the cursor past it.
 enum Step {
     Stop(usize),
     Bad(Refusal),
-    Whole(RouteMirroringTlv, Cursor),
+    Whole(u16, u16, u32, Cursor),
 }
 
+impl RouteMirroringInfo {
+    // The code that stands for the information on the wire.
+    pub fn code(self) -> u16
+        ensures { λ r. ⌜ r ≡ codeOf self ⌝ }
+    {
+        match self {
+            RouteMirroringInfo::ErroredPdu => 0,
+            RouteMirroringInfo::MessageLost => 1,
+        }
+    }
+}
+
+impl RouteMirroringTlv {
+    // Where the BGP message stands if the type is 0, else the name of the information.
+    pub fn value(self) -> RouteMirroringValue
+        ensures { λ r. ⌜ r ≡ valueOf self ⌝ }
+    {
+        if self.kind == 0 {
+            let view = View {
+                place: self.number as usize,
+                length: self.info_len as usize,
+            };
+            return RouteMirroringValue::BgpMessage(view);
+        }
+        RouteMirroringValue::Information(info_of(self.number))
+    }
+}
+
+// Reads the TLVs of a body into a table of 32.
 pub fn parse_route_mirroring(s: &[u8]) -> RouteMirroringAnswer
     ensures { λ r. ⌜ r ≡ readMirroring (now (s .entry)) ⌝ }
 {
@@ -59,11 +92,15 @@ pub fn parse_route_mirroring(s: &[u8]) -> RouteMirroringAnswer
         match step_at(s, at) {
             Step::Stop(place) => break place,
             Step::Bad(refusal) => return refused(refusal),
-            Step::Whole(tlv, next) => {
+            Step::Whole(kind, size, number, next) => {
                 if 32 <= count {
                     return refused(refusal_at(wire::TOO_MANY, at));
                 }
-                tlvs[count] = tlv;
+                tlvs[count] = RouteMirroringTlv {
+                    kind: kind,
+                    info_len: size,
+                    number: number,
+                };
                 count += 1;
                 at = next.at;
             }
@@ -82,54 +119,41 @@ pub fn parse_route_mirroring(s: &[u8]) -> RouteMirroringAnswer
     }
 }
 
-// The type is judged before the length is read.
+// A TLV is read while more than a head is left; its type is judged first.
 fn step_at(s: &[u8], at: usize) -> Step
+    requires { ⌜ length (now s) ≤ Number.limit ⌝ }
     ensures { λ r. ⌜ r ≡ stepAt (now (s .entry)) at ⌝ }
 {
-    if wire::left(s, at) <= 4 {
-        return Step::Stop(at);
-    }
     let start = Cursor { at: at };
-    let ReadU16::Good(kind, after_kind) = start.read_u16(s) else {
+    let TlvHead::Found(kind, size, value) = tlv_head::read_head(start, s, 1) else {
         return Step::Stop(at);
     };
     if 1 < kind {
         return Step::Bad(refusal_at(wire::BAD_TLV_TYPE, at));
     }
-    let ReadU16::Good(size, after_size) = after_kind.read_u16(s) else {
-        return Step::Stop(at);
-    };
     if kind == 0 {
-        return message_at(s, at, size, after_size);
+        return message_at(s, at, size, value);
     }
-    information_at(s, at, size, after_size)
+    information_at(s, at, size, value)
 }
 
 // A BGP message behind type and length: that it has a BGP header is judged before how much is left.
 fn message_at(s: &[u8], at: usize, size: u16, value: Cursor) -> Step
+    requires { ⌜ length (now s) ≤ Number.limit ⌝ }
     requires { ⌜ (size ≡ numAt 2 (drop at (now s)) 2) × (value .at ≡ at + 4) ⌝ }
     ensures { λ r. ⌜ r ≡ asStep at (messageStep (drop at (now (s .entry)))) ⌝ }
 {
     let place = value.at;
-    let left = wire::left(s, place);
-    let small = refusal_at(wire::BGP_LENGTH, at + 2);
-    let cut = wire::cut_at(place);
     if size < 19 {
-        return Step::Bad(small);
+        return Step::Bad(refusal_at(wire::BGP_LENGTH, at + 2));
     }
-    if left < (size as usize) {
-        return Step::Bad(cut);
+    if wire::left(s, place) < (size as usize) {
+        return Step::Bad(wire::cut_at(place));
     }
-    let view = View {
-        place: place,
-        length: size as usize,
-    };
-    let tlv = RouteMirroringTlv {
-        info_len: size,
-        value: RouteMirroringValue::BgpMessage(view),
-    };
     Step::Whole(
-        tlv,
+        0,
+        size,
+        place as u32,
         Cursor {
             at: place + (size as usize),
         },
@@ -141,22 +165,18 @@ fn information_at(s: &[u8], at: usize, size: u16, value: Cursor) -> Step
     requires { ⌜ (size ≡ numAt 2 (drop at (now s)) 2) × (value .at ≡ at + 4) ⌝ }
     ensures { λ r. ⌜ r ≡ asStep at (informationStep (drop at (now (s .entry)))) ⌝ }
 {
-    let place = value.at;
-    let ReadU16::Good(code, after_code) = value.read_u16(s) else {
-        return Step::Bad(wire::cut_at(place));
-    };
-    if 1 < code {
-        return Step::Bad(refusal_at(wire::UNKNOWN_KIND, place));
+    match value.read_u16(s) {
+        ReadU16::Cut(refusal) => Step::Bad(refusal),
+        ReadU16::Good(code, next) => {
+            if 1 < code {
+                return Step::Bad(refusal_at(wire::UNKNOWN_KIND, value.at));
+            }
+            Step::Whole(1, size, code as u32, next)
+        }
     }
-    let info = info_of(code);
-    let tlv = RouteMirroringTlv {
-        info_len: size,
-        value: RouteMirroringValue::Information(info),
-    };
-    Step::Whole(tlv, after_code)
 }
 
-fn info_of(code: u16) -> RouteMirroringInfo
+fn info_of(code: u32) -> RouteMirroringInfo
     ensures { λ r. ⌜ r ≡ infoOf code ⌝ }
 {
     match code {
@@ -168,13 +188,10 @@ fn info_of(code: u16) -> RouteMirroringInfo
 fn zero_tlv() -> RouteMirroringTlv
     ensures { λ r. ⌜ r ≡ zeroTlv ⌝ }
 {
-    let view = View {
-        place: 0,
-        length: 0,
-    };
     RouteMirroringTlv {
+        kind: 0,
         info_len: 0,
-        value: RouteMirroringValue::BgpMessage(view),
+        number: 0,
     }
 }
 

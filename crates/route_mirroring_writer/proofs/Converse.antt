@@ -2,28 +2,27 @@
 -- Assumes nothing.
 use mathlib.Core.Path.{_≡_, refl, sym, ap, _∙_, subst}
 use mathlib.Core.Bool.{true}
-use mathlib.Core.List.{List, [], _∷_}
-use Prim.Native.Nat.{ℕ, suc, _+_, _-_, _≤_, _<_}
+use mathlib.Core.List.{List, [], _∷_, _++_}
+use Prim.Native.Nat.{ℕ, zero, suc, _+_, _-_, _≤_, _<_}
 use native.Mathlib.Omega.{arith}
 use borrow.Author.Tests.{le-ltb}
 use lib.ListN.{length, getD, replicate}
-use Rattle.wire.specs.Parts.{joinAll, EachGood, AllAt}
+use Rattle.wire.specs.Parts.{joinAll, EachGood, AllAt, shownFrom}
 use Rattle.wire.specs.Exactly.{Shows}
 use Rattle.route_mirroring.specs.Read.{reader}
 use Rattle.writing.specs.Table.{parts, joined, allOk}
 use Rattle.writing.proofs.Table.{kept-each}
 use Rattle.writing.proofs.Trip.{table-back}
 use Rattle.tlv_table.proofs.Written.{good-fits}
-use Rattle.tlv_table.proofs.Translated.{no-tail-translated}
 use Rattle.route_mirroring.specs.Grammar.{Tlv, bgpMessage, information, put, Reading, join, ReadTlv, places, sizeOf}
-use Rattle.route_mirroring.specs.Shown.{zeroTlv, entry}
-use Rattle.route_mirroring_writer.specs.Write.{valuePart, writer, kept, bytesOf, writable, entryOf, SameTlv, Same}
+use Rattle.route_mirroring.specs.Shown.{valueOf, zeroTlv, entry}
+use Rattle.route_mirroring_writer.specs.Write.{valuePart, partOf, writer, kept, bytesOf, writable, SameTlv, Same}
 use Rattle.route_mirroring.specs.declared.RouteMirroringValue.{RouteMirroringValue}
 use Rattle.route_mirroring.specs.declared.RouteMirroringValue.the-variants.{BgpMessage, Information}
 use Rattle.route_mirroring.specs.declared.RouteMirroringTlv.{RouteMirroringTlv}
 use Rattle.route_mirroring.specs.declared.RouteMirroring.{RouteMirroring}
 use Rattle.route_mirroring.specs.declared.RouteMirroringAnswer.{RouteMirroringAnswer}
-use Rattle.route_mirroring_writer.proofs.Written.{Fine, fine-from, translates}
+use Rattle.route_mirroring_writer.proofs.Written.{Known, FineValue, fine-from, no-tail}
 use Rattle.route_mirroring.proofs.Shows.{ViewAt}
 use Rattle.route_mirroring_writer.proofs.Trip.{ReadsBack}
 
@@ -33,41 +32,70 @@ InsideValue b (BgpMessage v) = v .place + v .length ≤ length b
 InsideValue b (Information i) = Unit {0}
 
 abbrev pub Inside : List ℕ → RouteMirroringTlv → Type 0
-Inside b t = InsideValue b (t .value)
+Inside b t = InsideValue b (valueOf t)
 
 abbrev LengthTwo : ℕ → RouteMirroringValue → Type 0
 LengthTwo size (BgpMessage v) = Unit {0}
 LengthTwo size (Information i) = size ≡ 2
 
 abbrev pub TwoBytes : RouteMirroringTlv → Type 0
-TwoBytes t = LengthTwo (t .«info_len») (t .value)
+TwoBytes t = LengthTwo (t .«info_len») (valueOf t)
+
+-- what the reader shows has a type and a code that the writer knows
+shown-known : (at : ℕ) (x : Tlv) (r : List ℕ) → ReadTlv x r → Known (entry at x .kind) (entry at x .number)
+shown-known at (bgpMessage n z) r g = record { kind-known = omega arith; code-known = λ h. absurd (omega arith) }
+shown-known at (information n c) r g = record { kind-known = omega arith; code-known = λ h. g .known }
+
+each-known : (l : List Tlv) (z : List ℕ) (rest : List RouteMirroringTlv) (at i : ℕ) → EachGood put ReadTlv l z → i < length l
+    → Known (getD (shownFrom sizeOf entry at l ++ rest) i zeroTlv .kind) (getD (shownFrom sizeOf entry at l ++ rest) i zeroTlv .number)
+each-known [] z rest at i g h = absurd (omega arith)
+each-known (x ∷ l) z rest at zero g h = shown-known at x _ (g .0)
+each-known (x ∷ l) z rest at (suc i) g h = each-known l z rest (at + sizeOf x) i (g .1) (omega arith)
+
+same-known : (t : RouteMirroringTlv) (b : List ℕ) (u : RouteMirroringTlv) (s : List ℕ) → SameTlv t b u s → Known (u .kind) (u .number) → Known (t .kind) (t .number)
+same-known t b u s e h =
+    record {
+      kind-known = omega (arith, e .kind-same, h .kind-known);
+      code-known = λ z. omega (arith, e .code-same z, h .code-known (omega (arith, e .kind-same, z)));
+    }
 
 -- entries whose items are good are writable
 fine-value : (b : List ℕ) (size : ℕ) (x : RouteMirroringValue) (r : List ℕ) → ReadTlv (valuePart b size x) r → InsideValue b x → LengthTwo size x
-    → Fine (length b) size x
+    → FineValue (length b) size x
 fine-value b size (BgpMessage v) r g inside two =
     record { fits = good-fits 0 size v b (g .well-formed) inside; has-header = g .has-header }
 fine-value b size (Information i) r g inside two = two
 
+-- what all-fine asks of an entry beside its item
+pub record Asked (b : List ℕ) (t : RouteMirroringTlv) : Type 0 where
+  pub inside : Inside b t
+  pub two : TwoBytes t
+  pub is-known : Known (t .kind) (t .number)
+
 all-fine : (b : List ℕ) (l : List RouteMirroringTlv) → EachGood put ReadTlv (parts writer b l) []
-    → ((i : ℕ) → i < length l → Inside b (getD l i zeroTlv)) → ((i : ℕ) → i < length l → TwoBytes (getD l i zeroTlv))
-    → allOk writer (length b) l ≡ true
-all-fine b [] g inside two = refl
-all-fine b (t ∷ l) g inside two =
-    rw (fine-from (length b) t (fine-value b (t .«info_len») (t .value) (joined writer b l) (g .0) (inside 0 (omega arith)) (two 0 (omega arith))))
-    (all-fine b l (g .1) (λ i e. inside (suc i) (omega arith)) (λ i e. two (suc i) (omega arith)))
+    → ((i : ℕ) → i < length l → Asked b (getD l i zeroTlv)) → allOk writer (length b) l ≡ true
+all-fine b [] g asked = refl
+all-fine b (t ∷ l) g asked =
+    let a = asked 0 (omega arith) in
+    rw (fine-from (length b) t (record {
+      is-known = a .is-known;
+      fine-value = fine-value b (t .«info_len») (valueOf t) (joined writer b l) (g .0) (a .inside) (a .two);
+    }))
+    (all-fine b l (g .1) (λ i e. asked (suc i) (omega arith)))
 
 -- an item that is shown as an entry is that entry's
-one-part : (b s : List ℕ) (at : ℕ) (x : Tlv) (size : ℕ) (y : RouteMirroringValue) → ViewAt s at x
-    → SameTlv (record { «info_len» = size; value = y }) b (entry at x) s → x ≡ valuePart b size y
-one-part b s at (bgpMessage n z) size (BgpMessage v) shown-so e =
+one-part : (b s : List ℕ) (at : ℕ) (x : Tlv) (kind size number : ℕ) → ViewAt s at x
+    → SameTlv (record { kind = kind; «info_len» = size; number = number }) b (entry at x) s
+    → x ≡ partOf b (record { kind = kind; «info_len» = size; number = number })
+one-part b s at (bgpMessage n z) zero size number shown-so e =
     let value-is = sym (e .value-same ∙ shown-so) in
     λ i. bgpMessage (sym (e .len-same) i) (value-is i)
-one-part b s at (bgpMessage n z) size (Information j) shown-so e = absurd (e .value-same)
-one-part b s at (information n c) size (BgpMessage v) shown-so e = absurd (e .value-same)
-one-part b s at (information n c) size (Information j) shown-so e =
+one-part b s at (bgpMessage n z) (suc k) size number shown-so e = absurd (omega (arith, e .kind-same))
+one-part b s at (information n c) zero size number shown-so e = absurd (omega (arith, e .kind-same))
+one-part b s at (information n c) (suc zero) size number shown-so e =
     let code-is = sym (e .value-same ∙ shown-so) in
     λ i. information (sym (e .len-same) i) (code-is i)
+one-part b s at (information n c) (suc (suc k)) size number shown-so e = absurd (omega (arith, e .kind-same))
 
 pub writable-from : (m : RouteMirroring) (b : List ℕ) → length (m .tlvs) ≡ places
     → ((i : ℕ) → i < m .count → Inside b (getD (m .tlvs) i zeroTlv)) → ((i : ℕ) → i < m .count → TwoBytes (getD (m .tlvs) i zeroTlv))
@@ -79,11 +107,18 @@ writable-from m b long inside two q x view-so r =
     let few : m .count ≤ places = omega (arith, same .count-same, x .reading .fits) in
     let v : AllAt sizeOf (ViewAt s) 0 (q .tlvs) = subst (λ (z : List ℕ). AllAt sizeOf (ViewAt z) 0 (q .tlvs)) (x .reading .joined) view-so in
     let each : q .tlvs ≡ parts writer b (kept m) =
-    table-back writer sizeOf entry (ViewAt s) b (λ t u. SameTlv t b u s) zeroTlv (λ at x t. one-part b s at x (t .«info_len») (t .value))
+    table-back writer sizeOf entry (ViewAt s) b (λ t u. SameTlv t b u s) zeroTlv (λ at x t. one-part b s at x (t .kind) (t .«info_len») (t .number))
     (replicate (places - length (q .tlvs)) zeroTlv) (m .tlvs) (m .count) (q .tlvs) (omega (arith, long, few)) (same .count-same) v (same .tlv-same) in
     let z : q .tail ≡ [] =
-    no-tail-translated writer 19 true entryOf translates b (kept m) (q .tail) (ap (λ (l : List Tlv). joinAll put l (q .tail)) (sym each) ∙ x .reading .joined) in
+    no-tail (parts writer b (kept m)) (q .tail) (ap (λ (l : List Tlv). joinAll put l (q .tail)) (sym each) ∙ x .reading .joined) in
     let good : EachGood put ReadTlv (parts writer b (kept m)) [] =
     subst (λ (l : List Tlv). EachGood put ReadTlv l []) each (subst (EachGood put ReadTlv (q .tlvs)) z (x .reading .is-good .each)) in
-    rw (le-ltb places (m .count) few) (all-fine b (kept m) good
-    (kept-each (λ i t. Inside b t) (m .tlvs) (m .count) zeroTlv inside) (kept-each (λ i t. TwoBytes t) (m .tlvs) (m .count) zeroTlv two))
+    let rest = replicate (places - length (q .tlvs)) zeroTlv in
+    let asked : (i : ℕ) → i < m .count → Asked b (getD (m .tlvs) i zeroTlv) =
+    λ i h. record {
+      inside = inside i h;
+      two = two i h;
+      is-known = same-known (getD (m .tlvs) i zeroTlv) b (getD (shownFrom sizeOf entry 0 (q .tlvs) ++ rest) i zeroTlv) s (same .tlv-same i h)
+          (each-known (q .tlvs) (q .tail) rest 0 i (x .reading .is-good .each) (omega (arith, h, same .count-same)));
+    } in
+    rw (le-ltb places (m .count) few) (all-fine b (kept m) good (kept-each (λ i t. Asked b t) (m .tlvs) (m .count) zeroTlv asked))

@@ -1,24 +1,30 @@
 -- What the writing kit asks of a Route Mirroring body. Assumes nothing.
 use mathlib.Core.Path.{_≡_, refl, sym, ap, _∙_}
 use mathlib.Core.Bool.{Bool, true, false}
-use mathlib.Core.List.{List}
-use Prim.Native.Nat.{ℕ, _+_, _≤_}
+use mathlib.Core.List.{List, [], _∷_, _++_}
+use Prim.Native.Nat.{ℕ, zero, suc, _+_, _≤_, _<_}
 use native.Mathlib.Omega.{arith}
 use borrow.Author.Tests.{leb-true, le-leb, eqb-true, eq-eqb}
-use lib.Dec.{leb}
-use lib.ListN.{length, length-map}
+use lib.Dec.{leb, eqb}
+use lib.ListN.{length, length-map, length-append}
 use mir.Val.{Val}
 use denote.Laws.{Is}
 use denote.Struct.Laws as Struct
-use Rattle.wire.specs.Bytes.{pick}
-use Rattle.wire.specs.Tlv.{putTlv}
+use Rattle.wire.specs.Bytes.{pick, be, Bytes, none}
+use Rattle.wire.specs.Parts.{joinAll}
+use Rattle.wire.proofs.Bytes.{bytes-be, bytes-append}
+use Rattle.wire.proofs.Views.{bytes-viewed}
+use Rattle.wire.proofs.Walk as Walk
 use Rattle.wire.specs.declared.View.{View}
 use Rattle.writing.specs.Write.{tlvFits}
+use Rattle.writing.specs.Table.{joined}
 use Rattle.writing.proofs.Tlv.{TlvFits, fits-of, fits-from}
-use Rattle.tlv_table.specs.Tlvs.{partOf, entryWritable}
-use Rattle.tlv_table.proofs.Translated.{Translates}
-use Rattle.route_mirroring.specs.Grammar.{put, places}
-use Rattle.route_mirroring_writer.specs.Write.{valuePart, valueWritable, tlvWritable, writer, valueEntry, entryOf}
+use Rattle.writing.proofs.Table.{Bodied}
+use Rattle.tlv_table.specs.Tlvs.{entryWritable, oneTlv}
+use Rattle.tlv_table.proofs.Written.{entry-long}
+use Rattle.route_mirroring.specs.Grammar.{Tlv, bgpMessage, information, put, places}
+use Rattle.route_mirroring.specs.Shown.{codeOf, valueOf}
+use Rattle.route_mirroring_writer.specs.Write.{valuePart, known, valueWritable, tlvWritable, writer, valueEntry, entryOf}
 use Rattle.route_mirroring.specs.declared.RouteMirroringValue.{RouteMirroringValue}
 use Rattle.route_mirroring.specs.declared.RouteMirroringValue.the-variants.{BgpMessage, Information}
 use Rattle.route_mirroring.specs.declared.RouteMirroringTlv.{RouteMirroringTlv}
@@ -30,54 +36,120 @@ use Rattle.route_mirroring.proofs.RouteMirroring.Laws as MessageLaws
 pub table-long : (m : RouteMirroring) (vs : List Val) → Is Message.the-row m vs → length (m .tlvs) ≡ places
 table-long m vs is = sym (length-map (m .tlvs) _) ∙ Struct.owed Message.the-type MessageLaws.the-laws m vs is .0 .1 .0 .1
 
--- ---- what `tlvWritable` asks
+-- ---- what `tlvWritable` asks: a type and a code that the reader shows, and a value that fits
+pub record Known (kind number : ℕ) : Type 0 where
+  pub kind-known : kind ≤ 1
+  pub code-known : 0 < kind → number ≤ 1
+
 pub record FineMessage (room size : ℕ) (v : View) : Type 0 where
   pub fits : TlvFits 0 size v room
   pub has-header : 19 ≤ size
 
-abbrev pub Fine : ℕ → ℕ → RouteMirroringValue → Type 0
-Fine room size (BgpMessage v) = FineMessage room size v
-Fine room size (Information i) = size ≡ 2
+abbrev pub FineValue : ℕ → ℕ → RouteMirroringValue → Type 0
+FineValue room size (BgpMessage v) = FineMessage room size v
+FineValue room size (Information i) = size ≡ 2
 
-fine-value : (room size : ℕ) (x : RouteMirroringValue) → valueWritable room size x ≡ true → Fine room size x
-fine-value room size (BgpMessage v) e = go (leb 19 size) refl e
+pub record Fine (room : ℕ) (t : RouteMirroringTlv) : Type 0 where
+  pub is-known : Known (t .kind) (t .number)
+  pub fine-value : FineValue room (t .«info_len») (valueOf t)
+
+known-of : (kind size number : ℕ) → known (record { kind = kind; «info_len» = size; number = number }) ≡ true → Known kind number
+known-of kind size number e = go (eqb kind 0) refl (eqb kind 1) refl (leb number 1) refl e
+  where
+    go : (a : Bool) → eqb kind 0 ≡ a → (b : Bool) → eqb kind 1 ≡ b → (d : Bool) → leb number 1 ≡ d → pick a true (pick b d false) ≡ true → Known kind number
+    go true ha b hb d hd q =
+        let k = eqb-true kind 0 ha in
+        record { kind-known = omega arith; code-known = λ h. absurd (omega arith) }
+    go false ha true hb true hd q =
+        let k = eqb-true kind 1 hb in
+        record { kind-known = omega arith; code-known = λ h. leb-true number 1 hd }
+    go false ha true hb false hd q = let z : _≡_ {A = ℕ} 0 1 = cc in absurd (omega arith)
+    go false ha false hb d hd q = let z : _≡_ {A = ℕ} 0 1 = cc in absurd (omega arith)
+
+known-from : (kind size number : ℕ) → Known kind number → known (record { kind = kind; «info_len» = size; number = number }) ≡ true
+known-from zero size number h = refl
+known-from (suc zero) size number h = le-leb number 1 (h .code-known (omega arith))
+known-from (suc (suc k)) size number h = absurd (omega (arith, h .kind-known))
+
+value-of : (room size : ℕ) (x : RouteMirroringValue) → valueWritable room size x ≡ true → FineValue room size x
+value-of room size (BgpMessage v) e = go (leb 19 size) refl e
   where
     go : (a : Bool) → leb 19 size ≡ a → pick a (tlvFits 0 size v room) false ≡ true → FineMessage room size v
     go true h q = record { fits = fits-of _ _ _ _ q; has-header = leb-true 19 size h }
     go false h q = let z : _≡_ {A = ℕ} 0 1 = cc in absurd (omega arith)
-fine-value room size (Information i) e = eqb-true size 2 e
+value-of room size (Information i) e = eqb-true size 2 e
 
-pub fine-of : (room : ℕ) (t : RouteMirroringTlv) → tlvWritable room t ≡ true → Fine room (t .«info_len») (t .value)
-unfolding tlvWritable
-fine-of room t e = fine-value room (t .«info_len») (t .value) e
-
-value-from : (room size : ℕ) (x : RouteMirroringValue) → Fine room size x → valueWritable room size x ≡ true
+value-from : (room size : ℕ) (x : RouteMirroringValue) → FineValue room size x → valueWritable room size x ≡ true
 value-from room size (BgpMessage v) f = rw (le-leb 19 size (f .has-header)) (fits-from _ _ _ _ (f .fits))
 value-from room size (Information i) f = eq-eqb size 2 f
 
-pub fine-from : (room : ℕ) (t : RouteMirroringTlv) → Fine room (t .«info_len») (t .value) → tlvWritable room t ≡ true
+both-of : (room : ℕ) (t : RouteMirroringTlv) → tlvWritable room t ≡ true → (known t ≡ true) × (valueWritable room (t .«info_len») (valueOf t) ≡ true)
 unfolding tlvWritable
-fine-from room t f = value-from room (t .«info_len») (t .value) f
+both-of room t e = go (known t) refl e
+  where
+    go : (a : Bool) → known t ≡ a → pick a (valueWritable room (t .«info_len») (valueOf t)) false ≡ true
+        → (known t ≡ true) × (valueWritable room (t .«info_len») (valueOf t) ≡ true)
+    go true h q = (h, q)
+    go false h q = let z : _≡_ {A = ℕ} 0 1 = cc in absurd (omega arith)
 
--- ---- what is written for one TLV is that TLV
-ok-same : (room after size : ℕ) (x : RouteMirroringValue) → entryWritable 19 true room after (valueEntry size x) ≡ valueWritable room size x
+pub fine-of : (room : ℕ) (t : RouteMirroringTlv) → tlvWritable room t ≡ true → Fine room t
+fine-of room t e =
+    let h = both-of room t e in
+    record { is-known = known-of (t .kind) (t .«info_len») (t .number) (h .0); fine-value = value-of room (t .«info_len») (valueOf t) (h .1) }
+
+pub fine-from : (room : ℕ) (t : RouteMirroringTlv) → Fine room t → tlvWritable room t ≡ true
+unfolding tlvWritable
+fine-from room t f =
+    rw (known-from (t .kind) (t .«info_len») (t .number) (f .is-known)) (value-from room (t .«info_len») (valueOf t) (f .fine-value))
+
+-- ---- what is written for one TLV is that TLV, and is writable where its value is
+pub ok-same : (room after size : ℕ) (x : RouteMirroringValue) → entryWritable 19 true room after (valueEntry size x) ≡ valueWritable room size x
 unfolding entryWritable
 ok-same room after size (BgpMessage v) = refl
 ok-same room after size (Information i) = refl
 
-size-same : (size : ℕ) (x : RouteMirroringValue) → valueEntry size x .size ≡ size
-size-same size (BgpMessage v) = refl
-size-same size (Information i) = refl
+value-size : (size : ℕ) (x : RouteMirroringValue) → valueEntry size x .size ≡ size
+value-size size (BgpMessage v) = refl
+value-size size (Information i) = refl
 
-put-same : (b : List ℕ) (size : ℕ) (x : RouteMirroringValue) (r : List ℕ) → putTlv (partOf b (valueEntry size x)) r ≡ put (valuePart b size x) r
+pub size-same : (t : RouteMirroringTlv) → 4 + entryOf t .size ≡ 4 + t .«info_len»
+size-same t = ap (λ (n : ℕ). 4 + n) (value-size (t .«info_len») (valueOf t))
+
+-- ---- the bytes of one TLV alone, as the kit wants them
+abbrev pub oneOf : List ℕ → RouteMirroringTlv → List ℕ
+oneOf b t = oneTlv b (entryOf t)
+
+put-same : (b : List ℕ) (size : ℕ) (x : RouteMirroringValue) (r : List ℕ) → put (valuePart b size x) r ≡ oneTlv b (valueEntry size x) ++ r
+unfolding be
 put-same b size (BgpMessage v) r = refl
 put-same b size (Information i) r = refl
 
-pub translates : Translates writer 19 true entryOf
-unfolding tlvWritable
-translates =
+pub bodied : Bodied writer oneOf
+bodied =
     record {
-      ok-same = λ room n t. ok-same room n (t .«info_len») (t .value);
-      size-same = λ t. ap (λ (n : ℕ). 4 + n) (size-same (t .«info_len») (t .value));
-      put-same = λ b t r. put-same b (t .«info_len») (t .value) r;
+      put-is = λ b t r. put-same b (t .«info_len») (valueOf t) r;
+      length-is = λ b n t e.
+          entry-long 19 true b n (entryOf t) (ok-same (length b) n (t .«info_len») (valueOf t) ∙ both-of (length b) t e .1)
+          ∙ size-same t;
     }
+
+-- ---- they are bytes, and nothing behind them is theirs
+put-bytes : (b : List ℕ) → Bytes b → (size : ℕ) (x : RouteMirroringValue) (r : List ℕ) → Bytes r → Bytes (put (valuePart b size x) r)
+put-bytes b p size (BgpMessage v) r q = bytes-append (bytes-be 2 0) (bytes-append (bytes-be 2 size) (bytes-append (bytes-viewed b v p) q))
+put-bytes b p size (Information i) r q = bytes-append (bytes-be 2 1) (bytes-append (bytes-be 2 size) (bytes-append (bytes-be 2 (codeOf i)) q))
+
+pub bytes-joined : (b : List ℕ) → Bytes b → (l : List RouteMirroringTlv) → Bytes (joined writer b l)
+bytes-joined b p [] = none
+bytes-joined b p (t ∷ l) = put-bytes b p (t .«info_len») (valueOf t) (joined writer b l) (bytes-joined b p l)
+
+abbrev longOf : Tlv → ℕ
+longOf (bgpMessage size value) = 4 + length value
+longOf (information size code) = 6
+
+put-long : (t : Tlv) (r : List ℕ) → length (put t r) ≡ longOf t + length r
+unfolding be
+put-long (bgpMessage size value) r = omega (arith, length-append value r)
+put-long (information size code) r = omega arith
+
+pub no-tail : (l : List Tlv) (z : List ℕ) → joinAll put l z ≡ joinAll put l [] → z ≡ []
+no-tail = Walk.no-tail put longOf put-long

@@ -2,7 +2,7 @@
 use Prim.Native.Nat.{ℕ, _+_, _<_}
 use mathlib.Core.Path.{_≡_}
 use mathlib.Core.Bool.{Bool, true, false}
-use mathlib.Core.List.{List, [], map}
+use mathlib.Core.List.{List, []}
 use lib.ListN.{take, getD}
 use lib.Dec.{leb, ltb, eqb}
 use Rattle.wire.specs.Bytes.{pick}
@@ -11,9 +11,8 @@ use Rattle.writing.specs.Write.{tlvFits}
 use Rattle.writing.specs.Table.{Writer, parts, allOk}
 use Rattle.tlv_table.specs.declared.TlvValue.the-variants.{Part, Number}
 use Rattle.tlv_table.specs.declared.TlvEntry.{TlvEntry}
-use Rattle.tlv_table.specs.declared.TlvTable.{TlvTable}
 use Rattle.route_mirroring.specs.Grammar.{Tlv, bgpMessage, information, put, Reading, join, places}
-use Rattle.route_mirroring.specs.Shown.{codeOf, zeroTlv}
+use Rattle.route_mirroring.specs.Shown.{codeOf, valueOf, zeroTlv}
 use Rattle.route_mirroring.specs.declared.RouteMirroringValue.{RouteMirroringValue}
 use Rattle.route_mirroring.specs.declared.RouteMirroringValue.the-variants.{BgpMessage, Information}
 use Rattle.route_mirroring.specs.declared.RouteMirroringTlv.{RouteMirroringTlv}
@@ -25,16 +24,23 @@ valuePart b size (BgpMessage v) = bgpMessage size (viewed b v)
 valuePart b size (Information i) = information size (codeOf i)
 
 abbrev pub partOf : List ℕ → RouteMirroringTlv → Tlv
-partOf b t = valuePart b (t .«info_len») (t .value)
+partOf b t = valuePart b (t .«info_len») (valueOf t)
 
 -- ---- a TLV is writable, by the buffer's length: a BGP message of at least 19 bytes that can be written from its view, or
--- information of length 2
+-- information of length 2 with code 0 or 1. Not writable is
+--
+--     any TLV         whose type is above 1
+--     a BGP message   whose length is below 19, or whose view does not lie inside the buffer
+--     information     whose length is not 2, or whose code is above 1
+abbrev pub known : RouteMirroringTlv → Bool
+known t = pick (eqb (t .kind) 0) true (pick (eqb (t .kind) 1) (leb (t .number) 1) false)
+
 abbrev pub valueWritable : ℕ → ℕ → RouteMirroringValue → Bool
 valueWritable room size (BgpMessage v) = pick (leb 19 size) (tlvFits 0 size v room) false
 valueWritable room size (Information i) = eqb size 2
 
 unfoldable pub tlvWritable : ℕ → RouteMirroringTlv → Bool
-tlvWritable room t = valueWritable room (t .«info_len») (t .value)
+tlvWritable room t = pick (known t) (valueWritable room (t .«info_len») (valueOf t)) false
 
 abbrev pub writer : Writer
 writer =
@@ -60,16 +66,13 @@ bytesOf m b = join (readingOf m b)
 abbrev pub writable : RouteMirroring → ℕ → Bool
 writable m room = pick (ltb places (m .count)) false (allOk writer room (kept m))
 
--- ---- the table of TLVs that is written for a record
+-- ---- the TLV that is written for an entry
 abbrev pub valueEntry : ℕ → RouteMirroringValue → TlvEntry
 valueEntry size (BgpMessage v) = record { kind = 0; size = size; value = Part v }
 valueEntry size (Information i) = record { kind = 1; size = size; value = Number (codeOf i) }
 
 abbrev pub entryOf : RouteMirroringTlv → TlvEntry
-entryOf t = valueEntry (t .«info_len») (t .value)
-
-abbrev pub tableOf : RouteMirroring → TlvTable
-tableOf m = record { tlvs = map entryOf (m .tlvs); count = m .count; least = 19; «empty_last» = true }
+entryOf t = valueEntry (t .«info_len») (valueOf t)
 
 -- ---- two records are the same: their numbers below the count, and the bytes that their views show, each in its own buffer
 abbrev pub SameValue : RouteMirroringValue → List ℕ → RouteMirroringValue → List ℕ → Type 0
@@ -79,8 +82,10 @@ SameValue (Information i) b (BgpMessage u) s = ⊥
 SameValue (Information i) b (Information j) s = codeOf i ≡ codeOf j
 
 pub record SameTlv (t : RouteMirroringTlv) (b : List ℕ) (u : RouteMirroringTlv) (s : List ℕ) : Type 0 where
+  pub kind-same : t .kind ≡ u .kind
   pub len-same : t .«info_len» ≡ u .«info_len»
-  pub value-same : SameValue (t .value) b (u .value) s
+  pub value-same : SameValue (valueOf t) b (valueOf u) s
+  pub code-same : 0 < t .kind → t .number ≡ u .number
 
 pub record Same (m : RouteMirroring) (b : List ℕ) (n : RouteMirroring) (s : List ℕ) : Type 0 where
   pub count-same : m .count ≡ n .count

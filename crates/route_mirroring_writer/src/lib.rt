@@ -1,43 +1,72 @@
 // Writing the body of a BMP Route Mirroring message (RFC 7854, section 4.7), behind the per-peer header.
 use route_mirroring::RouteMirroring;
-use route_mirroring::RouteMirroringInfo;
 use route_mirroring::RouteMirroringTlv;
 use route_mirroring::RouteMirroringValue;
 use tlv_table::TlvEntry;
-use tlv_table::TlvTable;
 use tlv_table::TlvValue;
 use writing::WriteAnswer;
 ghost use mathlib.Core.Path.{_≡_};
 ghost use lib.ListN.{length};
 ghost use Rattle.writing.specs.Write.{writeAnswer, written};
-ghost use Rattle.route_mirroring.specs.Shown.{codeOf};
-ghost use Rattle.route_mirroring_writer.specs.Write.{entryOf, tableOf, bytesOf, writable};
+ghost use Rattle.route_mirroring_writer.specs.Write.{known, tlvWritable, entryOf, bytesOf, writable};
 
+// Writes the message, whose views point into the buffer, to the front of the output. The table is judged and measured in one pass
+// and written in a second, where it stands.
 pub fn write_route_mirroring(message: RouteMirroring, buffer: &[u8], out: &mut [u8]) -> WriteAnswer
     ensures { λ r. ⌜ r ≡ writeAnswer (writable message (length (now (buffer .entry)))) (length (bytesOf message (now (buffer .entry)))) (length (now (out .entry))) ⌝ }
     ensures { λ _. ⌜ now (out .exit) ≡ written (writable message (length (now (buffer .entry)))) (bytesOf message (now (buffer .entry))) (now (out .entry)) ⌝ }
 {
-    tlv_table::write_tlvs(table_of(message), 0, true, buffer, out)
+    let count = message.count;
+    if 32 < count {
+        return writing::write_answer(false, 0, out.len());
+    }
+    let mut length: usize = 0;
+    let mut i: usize = 0;
+    while i < count {
+        let tlv = message.tlvs[i];
+        if !tlv_writable(tlv, buffer.len()) {
+            return writing::write_answer(false, 0, out.len());
+        }
+        let entry = entry_of(tlv);
+        length += tlv_table::tlv_length(entry);
+        i += 1;
+    }
+    let answer = writing::write_answer(true, length, out.len());
+    let WriteAnswer::Written(_) = answer else {
+        return answer;
+    };
+    let mut at: usize = 0;
+    let mut k: usize = 0;
+    while k < count {
+        let tlv = message.tlvs[k];
+        let entry = entry_of(tlv);
+        tlv_table::put_entry(out, at, entry, buffer);
+        at += tlv_table::tlv_length(entry);
+        k += 1;
+    }
+    answer
 }
 
 // A part is a BGP message, which has at least its header.
-fn table_of(message: RouteMirroring) -> TlvTable
-    ensures { λ r. ⌜ r ≡ tableOf message ⌝ }
+fn tlv_writable(tlv: RouteMirroringTlv, room: usize) -> bool
+    ensures { λ r. ⌜ r ≡ tlvWritable room tlv ⌝ }
 {
-    let first = message.tlvs[0];
-    let none = entry_of(first);
-    let mut tlvs = [none; 32];
-    let mut i: usize = 0;
-    while i < 32 {
-        let tlv = message.tlvs[i];
-        tlvs[i] = entry_of(tlv);
-        i += 1;
+    if !is_known(tlv) {
+        return false;
     }
-    TlvTable {
-        tlvs: tlvs,
-        count: message.count,
-        least: 19,
-        empty_last: true,
+    let entry = entry_of(tlv);
+    tlv_table::entry_writable(entry, 19, true, room, 0)
+}
+
+// The reader shows no type above 1, and no code above 1.
+fn is_known(tlv: RouteMirroringTlv) -> bool
+    ensures { λ r. ⌜ r ≡ known tlv ⌝ }
+{
+    let kind = tlv.kind;
+    match kind {
+        0 => true,
+        1 => tlv.number <= 1,
+        _ => false,
     }
 }
 
@@ -45,8 +74,7 @@ fn entry_of(tlv: RouteMirroringTlv) -> TlvEntry
     ensures { λ r. ⌜ r ≡ entryOf tlv ⌝ }
 {
     let size = tlv.info_len;
-    let value = tlv.value;
-    match value {
+    match tlv.value() {
         RouteMirroringValue::BgpMessage(view) => TlvEntry {
             kind: 0,
             size: size,
@@ -55,16 +83,7 @@ fn entry_of(tlv: RouteMirroringTlv) -> TlvEntry
         RouteMirroringValue::Information(info) => TlvEntry {
             kind: 1,
             size: size,
-            value: TlvValue::Number(code_of(info)),
+            value: TlvValue::Number(info.code()),
         },
-    }
-}
-
-fn code_of(info: RouteMirroringInfo) -> u16
-    ensures { λ r. ⌜ r ≡ codeOf info ⌝ }
-{
-    match info {
-        RouteMirroringInfo::ErroredPdu => 0,
-        RouteMirroringInfo::MessageLost => 1,
     }
 }

@@ -13,7 +13,7 @@ use Rattle.route_mirroring.specs.Shown as Mirroring
 use Rattle.route_mirroring.specs.Read as MirroringRead
 use Rattle.termination_message.specs.Shown as Termination
 use Rattle.termination_message.specs.Read as TerminationRead
-use Rattle.stats_type.specs.Shown as StatsType
+use Rattle.stats_data.specs.Shown as StatsData
 use Rattle.stats_data.specs.Read.{valueOf}
 use Rattle.stats_report.specs.Shown as Statistics
 use Rattle.stats_report.specs.Read as StatisticsRead
@@ -28,5 +28,5 @@ expected x = x .answer
 
 -- One theorem over the whole list.
 pub specimens-hold : map answered specimens ≡ map expected specimens
-unfolding value walk fill readFields Common.typeOf Common.kindOf step Initiation.typeOf Initiation.kindOf Initiation.zeroTable PeerDown.reasonOf PeerDown.kindOf hasData MirroringRead.step MirroringRead.messageStep MirroringRead.informationStep Mirroring.infoOf Mirroring.zeroTable Mirroring.codeOf TerminationRead.step Termination.reasonOf Termination.codeOf Termination.zeroTable StatsType.typeOf StatsType.kindOf StatsType.names valueOf StatisticsRead.step Statistics.zeroTable
+unfolding value walk fill readFields Common.typeOf Common.kindOf step Initiation.zeroTable PeerDown.reasonOf PeerDown.kindOf hasData MirroringRead.step MirroringRead.messageStep MirroringRead.informationStep Mirroring.infoOf Mirroring.zeroTable Mirroring.codeOf TerminationRead.step Termination.reasonOf Termination.codeOf Termination.zeroTable StatsData.dataOf valueOf StatisticsRead.step Statistics.zeroTable
 specimens-hold = refl

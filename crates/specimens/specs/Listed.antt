@@ -26,7 +26,7 @@ use Rattle.termination_message.specs.Read.{readTermination}
 use Rattle.termination_message.specs.declared.TerminationTlvValue.{TerminationTlvValue}
 use Rattle.termination_message.specs.declared.TerminationTlv.{TerminationTlv}
 use Rattle.termination_message.specs.declared.TerminationAnswer.{TerminationAnswer}
-use Rattle.stats_type.specs.Shown as StatsType
+use Rattle.stats_report.specs.Shown as Statistics
 use Rattle.stats_data.specs.Grammar.{Value, counter, gauge, afi-safi-gauge, raw}
 use Rattle.stats_data.specs.Shown.{valueIn}
 use Rattle.stats_report.specs.Read.{readStats}
@@ -73,7 +73,7 @@ listedForm (raw b) l = number 3 ∷ b ∷ l
 abbrev pub listedCounters : List ℕ → List StatCounter → List (List ℕ)
 listedCounters s [] = []
 listedCounters s (t ∷ l) =
-    number (StatsType.kindOf (t .«stat_type»)) ∷ number (t .«stat_len») ∷ listedForm (valueIn s (t .«stat_data»)) (listedCounters s l)
+    number (t .kind) ∷ number (t .«stat_len») ∷ listedForm (valueIn s (Statistics.dataIn t)) (listedCounters s l)
 
 abbrev pub listedStatistics : List ℕ → StatsAnswer → Listed
 listedStatistics s a =
@@ -88,7 +88,7 @@ listedStatistics s a =
 -- of each TLV below the count type, length and value
 abbrev pub listedTlvs : List ℕ → List InitiationTlv → List (List ℕ)
 listedTlvs s [] = []
-listedTlvs s (t ∷ l) = number (Initiation.kindOf (t .«info_type»)) ∷ number (t .«info_len») ∷ viewed s (t .info) ∷ listedTlvs s l
+listedTlvs s (t ∷ l) = number (t .kind) ∷ number (t .«info_len») ∷ viewed s (Initiation.infoOf t) ∷ listedTlvs s l
 
 abbrev pub listedInitiation : List ℕ → InitiationAnswer → Listed
 listedInitiation s a =
@@ -107,7 +107,7 @@ listedEnding s (TerminationTlvValue.Reason r) size l = number 1 ∷ number size 
 
 abbrev pub listedEndings : List ℕ → List TerminationTlv → List (List ℕ)
 listedEndings s [] = []
-listedEndings s (t ∷ l) = listedEnding s (t .«info_value») (t .«info_len») (listedEndings s l)
+listedEndings s (t ∷ l) = listedEnding s (Termination.valueOf t) (t .«info_len») (listedEndings s l)
 
 abbrev pub listedTermination : List ℕ → TerminationAnswer → Listed
 listedTermination s a =
@@ -141,7 +141,7 @@ listedValue s (Information i) size l = number 1 ∷ number size ∷ number (Mirr
 
 abbrev pub listedMirrored : List ℕ → List RouteMirroringTlv → List (List ℕ)
 listedMirrored s [] = []
-listedMirrored s (t ∷ l) = listedValue s (t .value) (t .«info_len») (listedMirrored s l)
+listedMirrored s (t ∷ l) = listedValue s (Mirroring.valueOf t) (t .«info_len») (listedMirrored s l)
 
 abbrev pub listedMirroring : List ℕ → RouteMirroringAnswer → Listed
 listedMirroring s a =

@@ -13,10 +13,11 @@ use Rattle.wire.proofs.Bytes.{bytes-take, bytes-drop}
 use Rattle.wire.proofs.Views.{viewed-part}
 use Rattle.wire.proofs.Determined.{determined}
 use Rattle.stats_data.specs.Grammar.{Value, valueBytes, GoodValue}
-use Rattle.stats_data.specs.Shown.{dataAt, valueIn, refusalOf, dataOf}
+use Rattle.stats_data.specs.Shown.{afiOf, safiOf, numberOf, dataOf, valueIn, refusalOf, dataRead}
 use Rattle.stats_data.specs.Read.{valueOf, readData}
+use Rattle.stats_data.specs.declared.StatsData.{StatsData}
 use Rattle.stats_data.specs.declared.ReadData.{ReadData}
-use Rattle.stats_data.proofs.Values.{value-back, value-forth, value-seen}
+use Rattle.stats_data.proofs.Values.{value-back, value-forth, data-shown, value-seen}
 use native.Mathlib.Omega.{arith}
 use borrow.Author.Tests.{le-leb, lt-leb, leb-true}
 use Rattle.cursor.specs.Read.{cursor}
@@ -26,7 +27,7 @@ pub record ShowsValue (size : ℕ) (s : List ℕ) (at : ℕ) (v : Value) : Type 
   pub is-good : GoodValue v
   pub long : length (valueBytes v) ≡ size
   pub there : take size (drop at s) ≡ valueBytes v
-  pub shown-so : readData size s at ≡ ReadData.Good (dataAt at size v) (cursor (at + size))
+  pub shown-so : readData size s at ≡ ReadData.Good (afiOf v) (safiOf v) (numberOf at v) (cursor (at + size))
 
 -- What is accepted is a good value of that many bytes, and the answer shows it.
 pub sound : (size : ℕ) (s : List ℕ) (at : ℕ) → Bytes s → refusalOf (readData size s at) .number ≡ Number.Good → (v : Value) × ShowsValue size s at v
@@ -54,7 +55,7 @@ complete v g s at r e =
       long = refl;
       there = there;
       shown-so =
-          rw (le-leb size (length s - at) (omega (arith, left))) (ap (λ (w : Value). ReadData.Good (dataAt at size w) (cursor (at + size))) value-is);
+          rw (le-leb size (length s - at) (omega (arith, left))) (ap (λ (w : Value). ReadData.Good (afiOf w) (safiOf w) (numberOf at w) (cursor (at + size))) value-is);
     }
 
 -- Where fewer bytes are left, the whole value is Cut at its start.
@@ -68,11 +69,15 @@ unique v w g h e =
     sym (value-forth n v g (ap length e)) ∙ ap (valueOf n) e ∙ value-forth n w h refl
 
 -- The data that shows a value tells it again: the view of a raw one shows its bytes.
-pub views : (size : ℕ) (s : List ℕ) (at : ℕ) (v : Value) → ShowsValue size s at v → valueIn s (dataOf (readData size s at)) ≡ v
+pub views : (size : ℕ) (s : List ℕ) (at : ℕ) (v : Value) → ShowsValue size s at v → valueIn s (dataRead size (readData size s at)) ≡ v
 views size s at v h =
-    ap (λ (a : ReadData). valueIn s (dataOf a)) (h .shown-so)
+    ap (λ (a : ReadData). valueIn s (dataRead size a)) (h .shown-so)
+    ∙ ap (valueIn s) (data-shown at size v (h .is-good) (h .long))
     ∙ value-seen s at size v (viewed-part s (view at size) (ap length (h .there) ∙ h .long) ∙ h .there)
 
 -- ---- any two answers that the contracts allow are equal
 pub read-determined : (size : ℕ) (s : List ℕ) (at : ℕ) (r q : ReadData) → r ≡ readData size s at → q ≡ readData size s at → r ≡ q
 read-determined size s at r q = determined
+
+pub data-determined : (size afi safi number : ℕ) (d e : StatsData) → d ≡ dataOf size afi safi number → e ≡ dataOf size afi safi number → d ≡ e
+data-determined size afi safi number d e = determined

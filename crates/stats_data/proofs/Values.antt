@@ -2,9 +2,9 @@
 use mathlib.Core.Path.{_≡_, refl, sym, ap, _∙_, subst}
 use mathlib.Core.List.{List}
 use mathlib.Core.Bool.{Bool, true, false}
-use Prim.Native.Nat.{ℕ, _+_, _-_, _≤_, _<_}
+use Prim.Native.Nat.{ℕ, _+_, _-_, _%_, _^_, _≤_, _<_}
 use native.Mathlib.Omega.{arith}
-use native.Mathlib.Nat.{add-zero}
+use native.Mathlib.Nat.{add-zero, mod-eq-of-lt}
 use borrow.Author.Tests.{eqb-true, eqb-false, ne-eqb, leb-true, leb-false, le-leb, lt-leb}
 use lib.Dec.{eqb}
 use lib.ListN.{length, take, drop}
@@ -16,10 +16,9 @@ use Rattle.wire.specs.declared.Refusal.{Refusal}
 use Rattle.cursor.specs.declared.Cursor.{Cursor}
 use Rattle.wire.proofs.Bytes.{value-be, num-lt, num-back, num-last, num-part}
 use Rattle.stats_data.specs.Grammar.{Value, counter, gauge, afi-safi-gauge, raw, valueBytes, GoodValue}
-use Rattle.stats_data.specs.Shown.{dataAt, valueIn}
+use Rattle.stats_data.specs.Shown.{dataAt, afiOf, safiOf, numberOf, dataOf, valueIn}
 use Rattle.stats_data.specs.Read.{valueOf, wholeData, readData}
-use Rattle.stats_data.specs.declared.StatsData.{StatsData}
-use Rattle.stats_data.specs.declared.StatsData.the-variants.{Counter, Gauge, AfiSafiGauge, Unknown}
+use Rattle.stats_data.specs.declared.StatsData.the-variants.{Counter, AfiSafiGauge}
 use Rattle.stats_data.specs.declared.ReadData.{ReadData}
 
 -- the form of a value, by its length
@@ -77,14 +76,14 @@ value-forth size v g e = subst (λ (k : ℕ). valueOf k (valueBytes v) ≡ v) e 
 
 -- ---- a value that is read at a place, by its length
 module _ (size : ℕ) (s : List ℕ) (at : ℕ) where
-  pub read-4 : size ≡ 4 → wholeData 4 s at (Counter (numAt 4 s at)) ≡ readData size s at
-  read-4 e = rw (e, of-form 4 (take 4 (drop at s)) (is-4 refl), num-part 4 0 4 s at (omega arith), add-zero at)
+  pub value-4 : size ≡ 4 → counter (numAt 4 s at) ≡ valueOf size (take size (drop at s))
+  value-4 e = rw (e, of-form 4 (take 4 (drop at s)) (is-4 refl), num-part 4 0 4 s at (omega arith), add-zero at)
 
-  pub read-8 : size ≡ 8 → wholeData 8 s at (Gauge (numAt 8 s at)) ≡ readData size s at
-  read-8 e = rw (e, of-form 8 (take 8 (drop at s)) (is-8 refl), num-part 8 0 8 s at (omega arith), add-zero at)
+  pub value-8 : size ≡ 8 → gauge (numAt 8 s at) ≡ valueOf size (take size (drop at s))
+  value-8 e = rw (e, of-form 8 (take 8 (drop at s)) (is-8 refl), num-part 8 0 8 s at (omega arith), add-zero at)
 
-  pub read-11 : size ≡ 11 → wholeData 11 s at (AfiSafiGauge (numAt 2 s at) (numAt 1 s (at + 2)) (numAt 8 s (at + 3))) ≡ readData size s at
-  read-11 e =
+  pub value-11 : size ≡ 11 → afi-safi-gauge (numAt 2 s at) (numAt 1 s (at + 2)) (numAt 8 s (at + 3)) ≡ valueOf size (take size (drop at s))
+  value-11 e =
       rw (
         e,
         of-form 11 (take 11 (drop at s)) (is-11 refl),
@@ -94,40 +93,64 @@ module _ (size : ℕ) (s : List ℕ) (at : ℕ) where
         num-part 8 3 11 s at (omega arith),
       )
 
-  pub read-raw : (size ≡ 4 → ⊥) → (size ≡ 8 → ⊥) → (size ≡ 11 → ⊥) → wholeData size s at (Unknown (view at size)) ≡ readData size s at
-  read-raw h k l = rw (of-form size (take size (drop at s)) (is-raw h k l))
+  pub value-raw : (size ≡ 4 → ⊥) → (size ≡ 8 → ⊥) → (size ≡ 11 → ⊥) → raw (take size (drop at s)) ≡ valueOf size (take size (drop at s))
+  value-raw h k l = sym (of-form size (take size (drop at s)) (is-raw h k l))
 
 -- ---- both answers of a value that is read at a place
 module _ (size : ℕ) (s : List ℕ) (at : ℕ) where
-  pub data-good : (d e : StatsData) (c : Cursor) → size ≤ length s - at → d ≡ e → c .at ≡ at + size → ReadData.Good d c ≡ wholeData size s at e
-  data-good d e c h p q = (λ i. ReadData.Good (p i) (record { at = q i })) ∙ sym (rw (le-leb size (length s - at) h))
+  pub data-good : (v : Value) → v ≡ valueOf size (take size (drop at s)) → (afi safi n : ℕ) → size ≤ length s - at
+      → afi ≡ afiOf v → safi ≡ safiOf v → n ≡ numberOf at v → ReadData.Good afi safi n (cursor (at + size)) ≡ readData size s at
+  data-good v e afi safi n h p q r =
+      (λ i. ReadData.Good (p i) (q i) (r i) (cursor (at + size))) ∙ sym (rw (le-leb size (length s - at) h)) ∙ ap (wholeData size s at) e
 
-  pub data-cut : (e : StatsData) (r : Refusal) → length s - at < size → r ≡ cutAt at → ReadData.Cut r ≡ wholeData size s at e
-  data-cut e r h p = ap ReadData.Cut p ∙ sym (rw (lt-leb size (length s - at) h))
+  pub data-cut : (r : Refusal) → length s - at < size → r ≡ cutAt at → ReadData.Cut r ≡ readData size s at
+  data-cut r h p = ap ReadData.Cut p ∙ sym (rw (lt-leb size (length s - at) h))
 
   -- and the other way
-  pub record WasData (d : StatsData) (c : Cursor) : Type 0 where
+  pub record WasData (afi safi n : ℕ) (c : Cursor) : Type 0 where
     pub left : size ≤ length s - at
-    pub data-is : d ≡ dataAt at size (valueOf size (take size (drop at s)))
+    pub afi-is : afi ≡ afiOf (valueOf size (take size (drop at s)))
+    pub safi-is : safi ≡ safiOf (valueOf size (take size (drop at s)))
+    pub number-is : n ≡ numberOf at (valueOf size (take size (drop at s)))
     pub next : c .at ≡ at + size
 
-  pub was-data : (d : StatsData) (c : Cursor) → ReadData.Good d c ≡ readData size s at → WasData d c
-  was-data d c = go (has size s at) refl
+  pub was-data : (afi safi n : ℕ) (c : Cursor) → ReadData.Good afi safi n c ≡ readData size s at → WasData afi safi n c
+  was-data afi safi n c = go (has size s at) refl
     where
+      v : Value
+      v = valueOf size (take size (drop at s))
+
       go : (x : Bool) → has size s at ≡ x
-          → ReadData.Good d c ≡ pick x (ReadData.Good (dataAt at size (valueOf size (take size (drop at s)))) (cursor (at + size))) (ReadData.Cut (cutAt at))
-          → WasData d c
-      go true h q = record { left = leb-true size (length s - at) h; data-is = cc; next = cc }
+          → ReadData.Good afi safi n c ≡ pick x (ReadData.Good (afiOf v) (safiOf v) (numberOf at v) (cursor (at + size))) (ReadData.Cut (cutAt at))
+          → WasData afi safi n c
+      go true h q = record { left = leb-true size (length s - at) h; afi-is = cc; safi-is = cc; number-is = cc; next = cc }
       go false h q = let z : _≡_ {A = ℕ} 0 1 = cc in absurd (omega arith)
 
-  pub no-data : (r : Refusal) → ReadData.Cut r ≡ readData size s at → length s - at < size
+  pub no-data : (r : Refusal) → ReadData.Cut r ≡ readData size s at → (length s - at < size) × (r ≡ cutAt at)
   no-data r = go (has size s at) refl
     where
+      v : Value
+      v = valueOf size (take size (drop at s))
+
       go : (x : Bool) → has size s at ≡ x
-          → ReadData.Cut r ≡ pick x (ReadData.Good (dataAt at size (valueOf size (take size (drop at s)))) (cursor (at + size))) (ReadData.Cut (cutAt at))
-          → length s - at < size
+          → ReadData.Cut r ≡ pick x (ReadData.Good (afiOf v) (safiOf v) (numberOf at v) (cursor (at + size))) (ReadData.Cut (cutAt at))
+          → (length s - at < size) × (r ≡ cutAt at)
       go true h q = let z : _≡_ {A = ℕ} 0 1 = cc in absurd (omega arith)
-      go false h q = leb-false size (length s - at) h
+      go false h q = (leb-false size (length s - at) h, cc)
+
+-- ---- the numbers of a good value say the data that shows it
+by-numbers : (place : ℕ) (v : Value) → GoodValue v
+    → dataOf (length (valueBytes v)) (afiOf v) (safiOf v) (numberOf place v) ≡ dataAt place (length (valueBytes v)) v
+unfolding be dataOf
+by-numbers place (counter n) g = ap Counter (mod-eq-of-lt g)
+by-numbers place (gauge n) g = refl
+by-numbers place (afi-safi-gauge afi safi n) g = let safi-is : safi % 2 ^ 8 ≡ safi = mod-eq-of-lt (g .1) in λ i. AfiSafiGauge afi (safi-is i) n
+by-numbers place (raw b) g = rw (ne-eqb (length b) 4 (g .not-4), ne-eqb (length b) 8 (g .not-8), ne-eqb (length b) 11 (g .not-11))
+
+pub data-shown : (place size : ℕ) (v : Value) → GoodValue v → length (valueBytes v) ≡ size
+    → dataOf size (afiOf v) (safiOf v) (numberOf place v) ≡ dataAt place size v
+data-shown place size v g e =
+    subst (λ (k : ℕ). dataOf k (afiOf v) (safiOf v) (numberOf place v) ≡ dataAt place k v) e (by-numbers place v g)
 
 -- ---- data that shows a value says it again, where its view shows the value's bytes
 pub value-seen : (s : List ℕ) (place size : ℕ) (v : Value) → viewed s (view place size) ≡ valueBytes v → valueIn s (dataAt place size v) ≡ v

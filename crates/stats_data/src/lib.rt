@@ -1,17 +1,10 @@
 // The value of a statistics record (RFC 7854, section 4.8), by its length alone: the type has no say.
 use cursor::Cursor;
-use cursor::ReadU8;
-use cursor::ReadU16;
-use cursor::ReadU32;
-use cursor::ReadU64;
 use wire::Refusal;
 use wire::View;
 ghost use mathlib.Core.Path.{_≡_};
-ghost use Prim.Native.Nat.{_+_};
-ghost use Rattle.wire.specs.Bytes.{numAt};
-ghost use Rattle.wire.specs.View.{view};
-ghost use Rattle.stats_data.specs.Read.{wholeData, readData};
-ghost use Rattle.stats_data.specs.declared.StatsData.the-variants.{Counter, Gauge, AfiSafiGauge, Unknown};
+ghost use Rattle.stats_data.specs.Shown.{dataOf};
+ghost use Rattle.stats_data.specs.Read.{readData};
 
 pub enum StatsData {
     Counter(u32),
@@ -20,68 +13,46 @@ pub enum StatsData {
     Unknown(View),
 }
 
-// The data and the cursor past it, or the Cut of the whole value at its start.
+// The AFI, the SAFI and the number, zero where the form has none, and the cursor past them; or the Cut of the whole value at its start.
 pub enum ReadData {
-    Good(StatsData, Cursor),
+    Good(u16, u16, u64, Cursor),
     Cut(Refusal),
 }
 
-// In every form the value is one field, Cut at its start.
+// The numbers of the value at the cursor, which in every form is one field; that of a raw value is its place.
 pub fn read_data(s: &[u8], start: Cursor, size: u16) -> ReadData
     ensures { λ r. ⌜ r ≡ readData size (now (s .entry)) (start .at) ⌝ }
 {
-    match size {
-        4 => read_counter(s, start),
-        8 => read_gauge(s, start),
-        11 => read_afi_safi_gauge(s, start),
-        _ => read_unknown(s, start, size),
-    }
-}
-
-fn read_counter(s: &[u8], start: Cursor) -> ReadData
-    ensures { λ r. ⌜ r ≡ wholeData 4 (now (s .entry)) (start .at) (Counter (numAt 4 (now (s .entry)) (start .at))) ⌝ }
-{
-    let ReadU32::Good(n, next) = start.read_u32(s) else {
-        return ReadData::Cut(wire::cut_at(start.at));
-    };
-    ReadData::Good(StatsData::Counter(n), next)
-}
-
-fn read_gauge(s: &[u8], start: Cursor) -> ReadData
-    ensures { λ r. ⌜ r ≡ wholeData 8 (now (s .entry)) (start .at) (Gauge (numAt 8 (now (s .entry)) (start .at))) ⌝ }
-{
-    let ReadU64::Good(n, next) = start.read_u64(s) else {
-        return ReadData::Cut(wire::cut_at(start.at));
-    };
-    ReadData::Good(StatsData::Gauge(n), next)
-}
-
-fn read_afi_safi_gauge(s: &[u8], start: Cursor) -> ReadData
-    ensures { λ r. ⌜ r ≡ wholeData 11 (now (s .entry)) (start .at) (AfiSafiGauge (numAt 2 (now (s .entry)) (start .at)) (numAt 1 (now (s .entry)) (start .at + 2)) (numAt 8 (now (s .entry)) (start .at + 3))) ⌝ }
-{
-    let ReadU16::Good(afi, after_afi) = start.read_u16(s) else {
-        return ReadData::Cut(wire::cut_at(start.at));
-    };
-    let ReadU8::Good(safi, after_safi) = after_afi.read_u8(s) else {
-        return ReadData::Cut(wire::cut_at(start.at));
-    };
-    let ReadU64::Good(n, next) = after_safi.read_u64(s) else {
-        return ReadData::Cut(wire::cut_at(start.at));
-    };
-    ReadData::Good(StatsData::AfiSafiGauge(afi, safi, n), next)
-}
-
-fn read_unknown(s: &[u8], start: Cursor, size: u16) -> ReadData
-    ensures { λ r. ⌜ r ≡ wholeData size (now (s .entry)) (start .at) (Unknown (view (start .at) size)) ⌝ }
-{
-    let place = start.at;
+    let at = start.at;
     let length = size as usize;
-    if wire::left(s, place) < length {
-        return ReadData::Cut(wire::cut_at(place));
+    if wire::left(s, at) < length {
+        return ReadData::Cut(wire::cut_at(at));
     }
-    let view = View {
-        place: place,
-        length: length,
-    };
-    ReadData::Good(StatsData::Unknown(view), Cursor { at: place + length })
+    let next = Cursor { at: at + length };
+    match size {
+        4 => ReadData::Good(0, 0, numbers::u32_at(s, at) as u64, next),
+        8 => ReadData::Good(0, 0, numbers::u64_at(s, at), next),
+        11 => ReadData::Good(
+            numbers::u16_at(s, at),
+            numbers::u8_at(s, at + 2) as u16,
+            numbers::u64_at(s, at + 3),
+            next,
+        ),
+        _ => ReadData::Good(0, 0, at as u64, next),
+    }
+}
+
+// The data that the numbers of a value say, by its length; what is too large for a counter or a SAFI is cut down to it.
+pub fn data_of(size: u16, afi: u16, safi: u16, number: u64) -> StatsData
+    ensures { λ r. ⌜ r ≡ dataOf size afi safi number ⌝ }
+{
+    match size {
+        4 => StatsData::Counter((number % 4_294_967_296) as u32),
+        8 => StatsData::Gauge(number),
+        11 => StatsData::AfiSafiGauge(afi, (safi % 256) as u8, number),
+        _ => StatsData::Unknown(View {
+            place: number as usize,
+            length: size as usize,
+        }),
+    }
 }

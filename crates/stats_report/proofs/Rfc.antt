@@ -5,6 +5,7 @@ use mathlib.Core.List.{List, [], _∷_, _++_, map, append-nil}
 use mathlib.Core.Logic.{_⊎_, inl, inr}
 use Prim.Native.Nat.{ℕ, zero, suc, _^_, _≤_, _<_}
 use native.Mathlib.Omega.{arith}
+use native.Mathlib.Nat.{mod-eq-of-lt}
 use borrow.Author.Tests.{ltb-true, eqb-true, eqb-false}
 use lib.Dec.{eqb, lit<}
 use lib.ListN.{length, length-map}
@@ -21,12 +22,13 @@ use Rattle.wire.proofs.Refuses.{isOneOf, one-of, passes, passed, below}
 use Rattle.wire.proofs.Rfc.{information-good, join-together, each-together}
 use Rattle.wire.proofs.Exactly.{shows-good}
 use Rattle.stats_type.specs.Shown.{typeOf}
+use Rattle.stats_data.specs.Shown.{dataOf}
 use Rattle.stats_data.specs.declared.StatsData.{StatsData}
 use Rattle.stats_data.specs.declared.StatsData.the-variants.{Counter, Gauge, AfiSafiGauge}
 use Rattle.stats_data.specs.Grammar.{GoodValue}
 use Rattle.stats_data.proofs.Values.{value-back}
 use Rattle.stats_report.specs.Grammar.{asTlv, putStat, GoodStat, Good, places}
-use Rattle.stats_report.specs.Shown.{entry}
+use Rattle.stats_report.specs.Shown.{entry, dataIn}
 use Rattle.stats_report.specs.Read.{reader}
 use Rattle.stats_report.specs.Rfc.{counters, gauges, familyGauges, Statistic, counter, gauge, family-gauge, undefined, asInformation, StatisticFits, Conforms, statisticBytes, bytes, asStat, reading}
 use Rattle.stats_report.specs.declared.StatCounter.{StatCounter}
@@ -118,18 +120,19 @@ conforming-shown l c room limit =
 
 -- ---- the forms
 pub record ShownAs (kind : ℕ) (d : StatsData) (c : StatCounter) : Type 0 where
-  pub type-is : c .«stat_type» ≡ typeOf kind
-  pub data-is : c .«stat_data» ≡ d
+  pub type-is : typeOf (c .kind) ≡ typeOf kind
+  pub data-is : dataIn c ≡ d
 
 -- Each statistic that the RFCs define is shown under its type, in the form that they give it.
 pub form-shown : (at kind : ℕ)
-    → ((number : ℕ) → ShownAs kind (Counter number) (entry at (asStat (counter kind number))))
+    → ((number : ℕ) → number < 2 ^ 32 → ShownAs kind (Counter number) (entry at (asStat (counter kind number))))
     × ((number : ℕ) → ShownAs kind (Gauge number) (entry at (asStat (gauge kind number))))
-    × ((afi safi number : ℕ) → ShownAs kind (AfiSafiGauge afi safi number) (entry at (asStat (family-gauge kind afi safi number))))
+    × ((afi safi number : ℕ) → safi < 2 ^ 8 → ShownAs kind (AfiSafiGauge afi safi number) (entry at (asStat (family-gauge kind afi safi number))))
+unfolding dataOf
 form-shown at kind = (
+  λ number h. record { type-is = refl; data-is = ap Counter (mod-eq-of-lt h) },
   λ number. record { type-is = refl; data-is = refl },
-  λ number. record { type-is = refl; data-is = refl },
-  λ afi safi number. record { type-is = refl; data-is = refl },
+  λ afi safi number h. record { type-is = refl; data-is = ap (λ (k : ℕ). AfiSafiGauge afi k number) (mod-eq-of-lt h) },
 )
 
 -- A type of 0 to 17 has one of the three forms.

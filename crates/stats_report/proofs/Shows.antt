@@ -12,9 +12,9 @@ use Rattle.cursor.proofs.Reading.{Was}
 use Rattle.wire.proofs.Tlv.{tlv-viewed}
 use Rattle.wire.proofs.Walk as Walk
 use Rattle.stats_data.specs.Shown.{valueIn}
-use Rattle.stats_data.proofs.Values.{value-seen}
+use Rattle.stats_data.proofs.Values.{data-shown, value-seen}
 use Rattle.stats_report.specs.Grammar.{Stat, asTlv, putStat, GoodStat, Reading, join, Good}
-use Rattle.stats_report.specs.Shown.{entry, shown}
+use Rattle.stats_report.specs.Shown.{entry, dataIn, shown}
 use Rattle.stats_report.specs.Read.{kit, answer, readStats}
 use Rattle.stats_report.proofs.Laws.{laws, counted}
 
@@ -32,7 +32,9 @@ count-of r g =
 
 -- what the data of the entry that shows a record at a place says is its value
 abbrev pub ViewAt : List ℕ → ℕ → Stat → Type 0
-ViewAt s at t = valueIn s (entry at t .«stat_data») ≡ t .value
+ViewAt s at t = valueIn s (dataIn (entry at t)) ≡ t .value
 
 pub view-at : (s : List ℕ) (at : ℕ) (t : Stat) (r : List ℕ) → GoodStat t r → drop at s ≡ putStat t r → ViewAt s at t
-view-at s at t r g e = value-seen s _ (t .size) (t .value) (tlv-viewed (asTlv t) r (g .well-formed) s at e)
+view-at s at t r g e =
+    ap (valueIn s) (data-shown _ (t .size) (t .value) (g .value-good) (g .well-formed .size-is))
+    ∙ value-seen s _ (t .size) (t .value) (tlv-viewed (asTlv t) r (g .well-formed) s at e)

@@ -5,27 +5,24 @@ use mathlib.Core.Bool.{Bool, true, false}
 use Prim.Native.Nat.{ℕ, _+_, _-_, _≤_, _<_}
 use native.Mathlib.Omega.{arith}
 use native.Mathlib.Nat.{add-zero}
-use borrow.Author.Tests.{lt-ltb, le-ltb, ltb-true, ltb-false}
+use borrow.Author.Tests.{lt-ltb, le-ltb, ltb-true, ltb-false, leb-true, leb-false}
 use lib.Dec.{ltb}
 use lib.ListN.{length, take, drop, length-drop}
 use lib.Seq.{drop-drop}
-use Rattle.wire.specs.Bytes.{pick, numAt}
+use Rattle.wire.specs.Bytes.{pick, has, numAt}
 use Rattle.wire.specs.Refusal.{cutAt}
 use Rattle.wire.specs.TlvAt.{tlvOf}
 use Rattle.wire.specs.Walk as Walk
 use Rattle.wire.specs.Walk.{stop, bad, item, from}
 use Rattle.wire.specs.declared.Refusal.{Refusal}
 use Rattle.cursor.specs.declared.Cursor.{Cursor}
-use Rattle.stats_type.specs.Shown.{typeOf}
 use Rattle.stats_report.specs.Grammar.{Stat, sizeOf}
 use Rattle.stats_report.specs.Shown.{entry}
-use Rattle.stats_data.specs.Shown.{dataAt}
+use Rattle.stats_data.specs.Shown.{afiOf, safiOf, numberOf}
 use Rattle.stats_data.specs.Read.{valueOf, readData}
-use Rattle.stats_data.specs.declared.StatsData.{StatsData}
 use Rattle.stats_data.specs.declared.ReadData.{ReadData}
-use Rattle.stats_data.proofs.Values.{was-data}
-use Rattle.stats_report.specs.Read.{asStat, step, asStep, stepAt}
-use Rattle.stats_report.specs.declared.StatCounter.{StatCounter}
+use Rattle.stats_data.proofs.Values.{was-data, no-data}
+use Rattle.stats_report.specs.Read.{asStat, step, asStep, headCut, stepAt}
 use Rattle.stats_report.specs.declared.Step.the-variants.{Bad, Whole}
 
 pub data Seen (s : List ℕ) : Walk.Step Stat → Type 0 where
@@ -78,26 +75,33 @@ is-fault s r (whole h k) q = let z : _≡_ {A = ℕ} 0 1 = cc in absurd (omega a
 
 -- ---- each answer of `step_at`
 module _ (s : List ℕ) (at : ℕ) where
-  pub no-type-at : length s - at < 2 → stepAt s at ≡ Bad (cutAt at)
-  no-type-at h = rw (of (drop at s) (no-type (simp length-drop h)), add-zero at)
-
-  pub no-length-at : (place : ℕ) → place ≡ at + 2 → 2 ≤ length s - at → length s - place < 2 → stepAt s at ≡ Bad (cutAt place)
-  no-length-at place e h k = rw (of (drop at s) (no-length (simp length-drop h) (simp length-drop (omega arith))), e)
+  pub no-head-at : length s - at < 4 → stepAt s at ≡ Bad (headCut s at)
+  no-head-at k = go (has 2 s at) refl
+    where
+      go : (x : Bool) → has 2 s at ≡ x → stepAt s at ≡ Bad (pick x (cutAt (at + 2)) (cutAt at))
+      go true h = rw (of (drop at s) (no-length (simp length-drop (leb-true 2 (length s - at) h)) (simp length-drop k)))
+      go false h = rw (of (drop at s) (no-type (simp length-drop (leb-false 2 (length s - at) h))), add-zero at)
 
   module _ (long : 4 ≤ length s - at) (size : ℕ) (size-is : numAt 2 (drop at s) 2 ≡ size) (place : ℕ) (place-is : place ≡ at + 4) where
-    pub no-value-at : length s - place < size → stepAt s at ≡ Bad (cutAt place)
-    no-value-at h = rw (of (drop at s) (no-value (simp length-drop long) (rw (length-drop, size-is) (omega arith))), place-is)
+    pub no-value-at : (r : Refusal) → ReadData.Cut r ≡ readData size s place → stepAt s at ≡ Bad r
+    no-value-at r e =
+        let n = no-data size s place r e in
+        rw (of (drop at s) (no-value (simp length-drop long) (rw (length-drop, size-is) (omega (arith, n .0)))), n .1, place-is)
 
-    pub whole-at : (kind : ℕ) → numAt 2 (drop at s) 0 ≡ kind → (d : StatsData) (c : Cursor) → ReadData.Good d c ≡ readData size s place
-        → stepAt s at ≡ Whole (record { «stat_type» = typeOf kind; «stat_len» = size; «stat_data» = d }) c
-    whole-at kind kind-is d c e =
+    pub whole-at : (kind : ℕ) → numAt 2 (drop at s) 0 ≡ kind → (afi safi n : ℕ) (c : Cursor) → ReadData.Good afi safi n c ≡ readData size s place
+        → stepAt s at ≡ Whole kind size afi safi n c
+    whole-at kind kind-is afi safi n c e =
         let x = drop at s in
-        let w = was-data size s place d c e in
+        let w = was-data size s place afi safi n c e in
         let there : drop 4 x ≡ drop place s = drop-drop 4 at s ∙ ap (λ (j : ℕ). drop j s) (sym place-is) in
-        let data-is : dataAt (at + 4) (numAt 2 x 2) (valueOf (numAt 2 x 2) (take (numAt 2 x 2) (drop 4 x))) ≡ d = rw (size-is, there, ← place-is) (sym (w .data-is)) in
+        let v : valueOf (numAt 2 x 2) (take (numAt 2 x 2) (drop 4 x)) ≡ valueOf size (take size (drop place s)) = rw (size-is, there) in
+        let afi-so = ap afiOf v ∙ sym (w .afi-is) in
+        let safi-so = ap safiOf v ∙ sym (w .safi-is) in
+        let number-so : numberOf (at + 4) (valueOf (numAt 2 x 2) (take (numAt 2 x 2) (drop 4 x))) ≡ n =
+        ap (numberOf (at + 4)) v ∙ ap (λ (p : ℕ). numberOf p (valueOf size (take size (drop place s)))) (sym place-is) ∙ sym (w .number-is) in
         let end-is : at + (4 + numAt 2 x 2) ≡ c .at = omega (arith, w .next) in
         ap (asStep at) (of x (whole (simp length-drop long) (rw (length-drop, size-is) (omega (arith, w .left)))))
-        ∙ (λ i. Whole (record { «stat_type» = typeOf (kind-is i); «stat_len» = size-is i; «stat_data» = data-is i }) (record { at = end-is i }))
+        ∙ (λ i. Whole (kind-is i) (size-is i) (afi-so i) (safi-so i) (number-so i) (record { at = end-is i }))
 
 -- ---- and the other way
 pub was-bad : (at : ℕ) (r : Refusal) (s : List ℕ) → asStep at (step s) ≡ Bad r → (q : Refusal) × (step s ≡ bad q) × (from at q ≡ r)
@@ -108,11 +112,18 @@ was-bad at r s e = go (step s) refl e
     go (bad q) h p = (q, h, cc)
     go (item t) h p = (r, cc, cc)
 
-pub was-whole : (at : ℕ) (u : StatCounter) (c : Cursor) (s : List ℕ) → asStep at (step s) ≡ Whole u c
-    → (t : Stat) × (step s ≡ item t) × (entry at t ≡ u) × (at + sizeOf t ≡ c .at)
-was-whole at u c s e = go (step s) refl e
+pub was-whole : (at kind size afi safi n : ℕ) (c : Cursor) (s : List ℕ) → asStep at (step s) ≡ Whole kind size afi safi n c
+    → (t : Stat) × (step s ≡ item t) × (entry at t ≡ record { kind = kind; «stat_len» = size; afi = afi; safi = safi; value = n }) × (at + sizeOf t ≡ c .at)
+was-whole at kind size afi safi n c s e = go (step s) refl e
   where
-    go : (x : Walk.Step Stat) → step s ≡ x → asStep at x ≡ Whole u c → (t : Stat) × (step s ≡ item t) × (entry at t ≡ u) × (at + sizeOf t ≡ c .at)
+    go : (x : Walk.Step Stat) → step s ≡ x → asStep at x ≡ Whole kind size afi safi n c
+        → (t : Stat) × (step s ≡ item t) × (entry at t ≡ record { kind = kind; «stat_len» = size; afi = afi; safi = safi; value = n }) × (at + sizeOf t ≡ c .at)
     go stop h p = absurd (no-stop s (see s) h)
-    go (bad q) h p = (asStat (tlvOf s), cc, cc, cc)
-    go (item t) h p = (t, h, cc, cc)
+    go (bad q) h p = let z : _≡_ {A = ℕ} 0 1 = cc in absurd (omega arith)
+    go (item t) h p =
+        let kind-is : t .kind ≡ kind = cc in
+        let size-is : t .size ≡ size = cc in
+        let afi-is : afiOf (t .value) ≡ afi = cc in
+        let safi-is : safiOf (t .value) ≡ safi = cc in
+        let number-is : numberOf (at + 4) (t .value) ≡ n = cc in
+        (t, h, λ i. record { kind = kind-is i; «stat_len» = size-is i; afi = afi-is i; safi = safi-is i; value = number-is i }, cc)

@@ -8,7 +8,6 @@ use Rattle.wire.specs.Bytes.{be}
 use Rattle.wire.specs.View.{viewed}
 use Rattle.wire.specs.Exactly.{Told}
 use Rattle.wire.proofs.Walk.{each-at, items-told, tail-behind, end-within}
-use Rattle.stats_type.proofs.Promises.{kind-of-type}
 use Rattle.stats_report.specs.Grammar.{Stat, putStat, GoodStat, join, sizeOf, places}
 use Rattle.stats_report.specs.Shown.{entry, zeroCounter}
 use Rattle.stats_report.specs.Told.{toldStat}
@@ -19,7 +18,7 @@ use Rattle.stats_report.proofs.Shows.{view-at}
 stat-told : (s : List ℕ) (at : ℕ) (t : Stat) (r : List ℕ) → GoodStat t r → drop at s ≡ putStat t r → toldStat (viewed s) (entry at t) ≡ t
 stat-told s at t r g e =
     let value-is = view-at s at t r g e in
-    λ i. record { kind = kind-of-type (t .kind) i; size = t .size; value = value-is i }
+    λ i. record { kind = t .kind; size = t .size; value = value-is i }
 
 pub told-back : Told reader
 unfolding be

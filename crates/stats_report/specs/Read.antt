@@ -12,6 +12,8 @@ use Rattle.wire.specs.TlvAt.{tlvOf, tlvWidths}
 use Rattle.wire.specs.Walk as Walk
 use Rattle.wire.specs.Walk.{stop, bad, item, Kit, Out, good, refused, from, readFrom}
 use Rattle.wire.specs.Exactly.{Reader}
+use Rattle.wire.specs.declared.Refusal.{Refusal}
+use Rattle.stats_data.specs.Shown.{afiOf, safiOf, numberOf}
 use Rattle.stats_data.specs.Read.{valueOf}
 use Rattle.stats_report.specs.Grammar.{Stat, places, sizeOf, grammar}
 use Rattle.stats_report.specs.Told as Told
@@ -39,11 +41,17 @@ widthsIn s = tlvWidths (numAt 2 s 2)
 abbrev pub kit : Kit
 kit = record { Item = Stat; Entry = StatCounter; step = step; size = sizeOf; entry = entry; none = zeroCounter; limit = places }
 
--- one step at a place, as the code answers it: the fault, or the entry and the cursor past it; the step never stops by itself
+-- the Cut of a head that is not all there: its type's, or its length's
+abbrev pub headCut : List ℕ → ℕ → Refusal
+headCut s at = pick (has 2 s at) (cutAt (at + 2)) (cutAt at)
+
+-- one step at a place, as the code answers it: the fault, or the numbers of the entry and the cursor past it; the step never stops
+-- by itself
 abbrev pub asStep : ℕ → Walk.Step Stat → Step
 asStep at stop = Bad noRefusal
 asStep at (bad r) = Bad (from at r)
-asStep at (item t) = Whole (entry at t) (cursor (at + sizeOf t))
+asStep at (item t) =
+    Whole (t .kind) (t .size) (afiOf (t .value)) (safiOf (t .value)) (numberOf (at + 4) (t .value)) (cursor (at + sizeOf t))
 
 abbrev pub stepAt : List ℕ → ℕ → Step
 stepAt s at = asStep at (step (drop at s))

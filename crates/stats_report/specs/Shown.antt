@@ -5,30 +5,39 @@ use lib.ListN.{length, replicate}
 use Rattle.wire.specs.Refusal.{noRefusal}
 use Rattle.wire.specs.Parts.{shownFrom, endFrom}
 use Rattle.wire.specs.declared.Refusal.{Refusal}
-use Rattle.stats_type.specs.Shown.{typeOf}
-use Rattle.stats_type.specs.declared.StatType.the-variants.{PrefixesRejectedByInboundPolicy}
-use Rattle.stats_data.specs.Shown.{dataAt}
-use Rattle.stats_data.specs.declared.StatsData.the-variants.{Counter}
+use Rattle.stats_data.specs.Shown.{afiOf, safiOf, numberOf, dataOf}
+use Rattle.stats_data.specs.declared.StatsData.{StatsData}
 use Rattle.stats_report.specs.Grammar.{Stat, Reading, sizeOf, places}
 use Rattle.stats_report.specs.declared.StatCounter.{StatCounter}
 use Rattle.stats_report.specs.declared.StatsAnswer.{StatsAnswer}
 
 abbrev pub zeroCounter : StatCounter
-zeroCounter = record { «stat_type» = PrefixesRejectedByInboundPolicy; «stat_len» = 0; «stat_data» = Counter 0 }
+zeroCounter = record { kind = 0; «stat_len» = 0; afi = 0; safi = 0; value = 0 }
 
 unfoldable pub zeroTable : List StatCounter
 zeroTable = replicate places zeroCounter
 
 -- a record as the table shows it, where it starts at a place
 abbrev pub entry : ℕ → Stat → StatCounter
-entry at t = record { «stat_type» = typeOf (t .kind); «stat_len» = t .size; «stat_data» = dataAt (at + 4) (t .size) (t .value) }
+entry at t =
+    record {
+      kind = t .kind;
+      «stat_len» = t .size;
+      afi = afiOf (t .value);
+      safi = safiOf (t .value);
+      value = numberOf (at + 4) (t .value);
+    }
+
+-- the data of an entry
+abbrev pub dataIn : StatCounter → StatsData
+dataIn c = dataOf (c .«stat_len») (c .afi) (c .safi) (c .value)
 
 abbrev pub goodAnswer : ℕ → ℕ → ℕ → List StatCounter → StatsAnswer
 goodAnswer total count end table =
-    record { refusal = noRefusal; stop = end; report = record { «stats_count» = total; counters = table; count = count } }
+    record { refusal = noRefusal; stop = end; report = record { counters = table; count = count; «stats_count» = total } }
 
 abbrev pub refusedAnswer : Refusal → StatsAnswer
-refusedAnswer r = record { refusal = r; stop = 0; report = record { «stats_count» = 0; counters = zeroTable; count = 0 } }
+refusedAnswer r = record { refusal = r; stop = 0; report = record { counters = zeroTable; count = 0; «stats_count» = 0 } }
 
 -- the good answer: the records in order, entries past the count zero, the stop where the last record ends
 abbrev pub shown : Reading → StatsAnswer

@@ -1,27 +1,32 @@
 // The body of a BMP Statistics Report (RFC 7854, section 4.8).
 use cursor::Cursor;
-use cursor::ReadU16;
 use cursor::ReadU32;
 use stats_data::ReadData;
 use stats_data::StatsData;
 use stats_type::StatType;
+use tlv_head::TlvHead;
 use wire::Refusal;
 ghost use mathlib.Core.Path.{_≡_};
 ghost use Rattle.wire.specs.Refusal.{refusal};
 ghost use Rattle.wire.specs.Walk.{readFrom};
-ghost use Rattle.stats_report.specs.Shown.{zeroCounter, refusedAnswer};
-ghost use Rattle.stats_report.specs.Read.{stepAt, kit, answer, readStats};
+ghost use Rattle.stats_type.specs.Shown.{typeOf};
+ghost use Rattle.stats_report.specs.Shown.{zeroCounter, dataIn, refusedAnswer};
+ghost use Rattle.stats_report.specs.Read.{headCut, stepAt, kit, answer, readStats};
 
 pub struct StatsReport {
-    pub stats_count: u32,
     pub counters: [StatCounter; 64],
     pub count: usize,
+    pub stats_count: u32,
 }
 
+// A record as the wire has it. The length alone says the form: 4 is a counter, 8 a gauge, 11 an AFI, a SAFI and a gauge, and of any
+// other the value is the place of its bytes; parts that the form does not use are zero.
 pub struct StatCounter {
-    pub stat_type: StatType,
+    pub kind: u16,
     pub stat_len: u16,
-    pub stat_data: StatsData,
+    pub afi: u16,
+    pub safi: u16,
+    pub value: u64,
 }
 
 // The stop is where the last counter ends, and the tail starts.
@@ -31,12 +36,29 @@ pub struct StatsAnswer {
     pub report: StatsReport,
 }
 
-// What stands at a place of the walk: a field that lacks bytes, or a counter and the cursor past it.
+// What stands at a place of the walk: a field that lacks bytes, or the five numbers of a counter and the cursor past it.
 enum Step {
     Bad(Refusal),
-    Whole(StatCounter, Cursor),
+    Whole(u16, u16, u16, u16, u64, Cursor),
 }
 
+impl StatCounter {
+    // The name of what is counted.
+    pub fn stat_type(self) -> StatType
+        ensures { λ r. ⌜ r ≡ typeOf (self .kind) ⌝ }
+    {
+        stats_type::type_of(self.kind)
+    }
+
+    // The data, in the form that the length says.
+    pub fn stat_data(self) -> StatsData
+        ensures { λ r. ⌜ r ≡ dataIn self ⌝ }
+    {
+        stats_data::data_of(self.stat_len, self.afi, self.safi, self.value)
+    }
+}
+
+// Reads the body: the count, as many records as it says, and a tail that is left.
 pub fn parse_stats_report(s: &[u8]) -> StatsAnswer
     ensures { λ r. ⌜ r ≡ readStats (now (s .entry)) ⌝ }
 {
@@ -44,10 +66,10 @@ pub fn parse_stats_report(s: &[u8]) -> StatsAnswer
         return refused_at(wire::TOO_LONG, 0);
     }
     let start = Cursor { at: 0 };
-    let ReadU32::Good(stats_count, after_count) = start.read_u32(s) else {
-        return refused(wire::cut_at(0));
-    };
-    read_counters(s, stats_count, after_count)
+    match start.read_u32(s) {
+        ReadU32::Cut(refusal) => refused(refusal),
+        ReadU32::Good(stats_count, behind) => read_counters(s, stats_count, behind),
+    }
 }
 
 fn read_counters(s: &[u8], stats_count: u32, start: Cursor) -> StatsAnswer
@@ -63,11 +85,17 @@ fn read_counters(s: &[u8], stats_count: u32, start: Cursor) -> StatsAnswer
         }
         match step_at(s, at) {
             Step::Bad(refusal) => return refused(refusal),
-            Step::Whole(counter, next) => {
+            Step::Whole(kind, size, afi, safi, value, next) => {
                 if 64 <= count {
                     return refused_at(wire::TOO_MANY, at);
                 }
-                counters[count] = counter;
+                counters[count] = StatCounter {
+                    kind: kind,
+                    stat_len: size,
+                    afi: afi,
+                    safi: safi,
+                    value: value,
+                };
                 count += 1;
                 at = next.at;
             }
@@ -80,9 +108,9 @@ fn read_counters(s: &[u8], stats_count: u32, start: Cursor) -> StatsAnswer
         },
         stop: stop,
         report: StatsReport {
-            stats_count: stats_count,
             counters: counters,
             count: count,
+            stats_count: stats_count,
         },
     }
 }
@@ -91,30 +119,34 @@ fn step_at(s: &[u8], at: usize) -> Step
     ensures { λ r. ⌜ r ≡ stepAt (now (s .entry)) at ⌝ }
 {
     let start = Cursor { at: at };
-    let ReadU16::Good(kind, after_kind) = start.read_u16(s) else {
-        return Step::Bad(wire::cut_at(at));
+    let TlvHead::Found(kind, size, behind) = tlv_head::read_head(start, s, 0) else {
+        return Step::Bad(head_cut(s, at));
     };
-    let ReadU16::Good(size, after_size) = after_kind.read_u16(s) else {
-        return Step::Bad(wire::cut_at(after_kind.at));
-    };
-    let ReadData::Good(stat_data, next) = stats_data::read_data(s, after_size, size) else {
-        return Step::Bad(wire::cut_at(after_size.at));
-    };
-    let counter = StatCounter {
-        stat_type: stats_type::type_of(kind),
-        stat_len: size,
-        stat_data: stat_data,
-    };
-    Step::Whole(counter, next)
+    match stats_data::read_data(s, behind, size) {
+        ReadData::Cut(refusal) => Step::Bad(refusal),
+        ReadData::Good(afi, safi, value, next) => Step::Whole(kind, size, afi, safi, value, next),
+    }
+}
+
+// Where a head is not all there, its type or its length is Cut.
+fn head_cut(s: &[u8], at: usize) -> Refusal
+    ensures { λ r. ⌜ r ≡ headCut (now (s .entry)) at ⌝ }
+{
+    if wire::left(s, at) < 2 {
+        return wire::cut_at(at);
+    }
+    wire::cut_at(at + 2)
 }
 
 fn zero_counter() -> StatCounter
     ensures { λ r. ⌜ r ≡ zeroCounter ⌝ }
 {
     StatCounter {
-        stat_type: StatType::PrefixesRejectedByInboundPolicy,
+        kind: 0,
         stat_len: 0,
-        stat_data: StatsData::Counter(0),
+        afi: 0,
+        safi: 0,
+        value: 0,
     }
 }
 
@@ -136,9 +168,9 @@ fn refused(refusal: Refusal) -> StatsAnswer
         refusal: refusal,
         stop: 0,
         report: StatsReport {
-            stats_count: 0,
             counters: [zero; 64],
             count: 0,
+            stats_count: 0,
         },
     }
 }

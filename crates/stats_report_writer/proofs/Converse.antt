@@ -1,70 +1,87 @@
 -- No record is refused that would be read back as itself, where its views lie inside the buffer. Assumes nothing.
 use mathlib.Core.Path.{_≡_, refl, sym, ap, _∙_, subst}
 use mathlib.Core.Bool.{true}
-use mathlib.Core.List.{List, [], _∷_}
-use Prim.Native.Nat.{ℕ, suc, _+_, _-_, _≤_, _<_}
+use mathlib.Core.List.{List, [], _∷_, _++_}
+use Prim.Native.Nat.{ℕ, zero, suc, _+_, _-_, _≤_, _<_}
 use native.Mathlib.Omega.{arith}
 use borrow.Author.Tests.{le-ltb, eq-eqb}
 use lib.ListN.{length, getD, replicate}
 use lib.Seq.{length-take-le}
 use Rattle.wire.specs.Bytes.{Bytes, none}
-use Rattle.wire.specs.Parts.{joinAll, EachGood, AllAt}
+use Rattle.wire.specs.Parts.{joinAll, EachGood, AllAt, shownFrom}
 use Rattle.wire.proofs.Bytes.{bytes-be, bytes-append}
 use Rattle.wire.proofs.Tlv.{put-tlv-long}
 use Rattle.wire.proofs.Walk.{no-tail}
 use Rattle.wire.specs.Exactly.{Shows}
 use Rattle.stats_report.specs.Read.{reader}
 use Rattle.writing.specs.Table.{parts, joined, allOk}
-use Rattle.writing.proofs.Table.{kept-below, kept-at}
+use Rattle.writing.proofs.Table.{kept-each}
 use Rattle.writing.proofs.Trip.{parts-back}
-use Rattle.stats_type.specs.Shown.{kindOf}
-use Rattle.stats_type.proofs.Promises.{kind-of-type}
 use Rattle.stats_data.specs.Grammar.{valueBytes}
-use Rattle.stats_data.specs.Shown.{valueIn}
+use Rattle.stats_data.specs.Shown.{afiOf, safiOf, numberOf, valueIn}
 use Rattle.stats_data_writer.proofs.Written.{fine-from, InsideData, data-bytes}
 use Rattle.stats_report.specs.Grammar.{Stat, asTlv, putStat, GoodStat, Reading, join, places, sizeOf}
-use Rattle.stats_report.specs.Shown.{zeroCounter, entry, shown}
-use Rattle.stats_report_writer.specs.Write.{partOf, writer, kept, bytesOf, writable, SameCounter, Same}
+use Rattle.stats_report.specs.Shown.{zeroCounter, entry, dataIn, shown}
+use Rattle.stats_report_writer.specs.Write.{partOf, plain, writer, kept, bytesOf, writable, SameCounter, Same}
 use Rattle.stats_report.specs.declared.StatCounter.{StatCounter}
 use Rattle.stats_report.specs.declared.StatsReport.{StatsReport}
 use Rattle.stats_report.specs.declared.StatsAnswer.{StatsAnswer}
 use Rattle.stats_report.proofs.Shows.{ViewAt}
 use Rattle.stats_report_writer.proofs.Trip.{ReadsBack}
+use Rattle.stats_report_writer.proofs.Written.{own-from}
 use Rattle.stats_report.proofs.Laws.{behind}
 
 abbrev pub Inside : List ℕ → StatCounter → Type 0
-Inside b t = InsideData b (t .«stat_data»)
+Inside b t = InsideData b (dataIn t)
 
--- entries whose items are good are writable
+-- entries whose numbers are plain and whose items are good are writable
 all-fine : (b : List ℕ) (l : List StatCounter) → EachGood putStat GoodStat (parts writer b l) []
-    → ((i : ℕ) → i < length l → Inside b (getD l i zeroCounter)) → allOk writer (length b) l ≡ true
-all-fine b [] g h = refl
-all-fine b (t ∷ l) g h =
+    → ((i : ℕ) → i < length l → Inside b (getD l i zeroCounter)) → ((i : ℕ) → i < length l → plain (getD l i zeroCounter) ≡ true)
+    → allOk writer (length b) l ≡ true
+all-fine b [] g h p = refl
+all-fine b (t ∷ l) g h p =
     let w = g .0 .well-formed in
-    rw (fine-from b (kindOf (t .«stat_type»)) (t .«stat_len») (t .«stat_data»)
-    (record { kind-fits = w .kind-fits; size-fits = w .size-fits; size-is = w .size-is; value-good = g .0 .value-good }) (h 0 (omega arith)))
-    (all-fine b l (g .1) (λ i e. h (suc i) (omega arith)))
+    let f = fine-from b (t .kind) (t .«stat_len») (dataIn t)
+    (record { kind-fits = w .kind-fits; size-fits = w .size-fits; size-is = w .size-is; value-good = g .0 .value-good }) (h 0 (omega arith)) in
+    rw (p 0 (omega arith), f) (all-fine b l (g .1) (λ i e. h (suc i) (omega arith)) (λ i e. p (suc i) (omega arith)))
 
 -- an item that is shown as an entry is that entry's
+value-of : (b s : List ℕ) (at : ℕ) (x : Stat) (t : StatCounter) → ViewAt s at x → SameCounter t b (entry at x) s → x .value ≡ valueIn b (dataIn t)
+value-of b s at x t v e = sym (e .data-same ∙ v)
+
 one-part : (b s : List ℕ) (at : ℕ) (x : Stat) (t : StatCounter) → ViewAt s at x → SameCounter t b (entry at x) s → x ≡ partOf b t
 one-part b s at x t v e =
-    let kind-is : x .kind ≡ kindOf (t .«stat_type») = sym (e .kind-same ∙ kind-of-type (x .kind)) in
-    let value-is : x .value ≡ valueIn b (t .«stat_data») = sym (e .data-same ∙ v) in
-    λ i. record { kind = kind-is i; size = sym (e .len-same) i; value = value-is i }
+    let value-is = value-of b s at x t v e in
+    λ i. record { kind = sym (e .kind-same) i; size = sym (e .len-same) i; value = value-is i }
+
+-- and that entry's numbers are plain
+one-plain : (b s : List ℕ) (at : ℕ) (x : Stat) (t : StatCounter) → ViewAt s at x → SameCounter t b (entry at x) s → plain t ≡ true
+one-plain b s at x t v e =
+    let value-is = value-of b s at x t v e in
+    own-from b (at + 4) t
+    (record {
+      afi-is = e .afi-same ∙ ap afiOf value-is;
+      safi-is = e .safi-same ∙ ap safiOf value-is;
+      number-is = λ o. e .number-same o ∙ ap (numberOf (at + 4)) value-is;
+    })
+
+all-plain : (b s : List ℕ) (r k : List StatCounter) (l : List Stat) (at : ℕ) → length k ≡ length l → AllAt sizeOf (ViewAt s) at l
+    → ((i : ℕ) → i < length k → SameCounter (getD k i zeroCounter) b (getD (shownFrom sizeOf entry at l ++ r) i zeroCounter) s)
+    → (i : ℕ) → i < length k → plain (getD k i zeroCounter) ≡ true
+all-plain b s r [] l at n v h i e = absurd (omega arith)
+all-plain b s r (t ∷ k) [] at n v h i e = absurd (omega arith)
+all-plain b s r (t ∷ k) (x ∷ l) at n v h zero e = one-plain b s at x t (v .0) (h 0 (omega arith))
+all-plain b s r (t ∷ k) (x ∷ l) at n v h (suc i) e =
+    all-plain b s r k l (at + sizeOf x) (omega arith) (v .1) (λ j f. h (suc j) (omega arith)) i (omega arith)
 
 bytes-joined : (b : List ℕ) → Bytes b → (l : List StatCounter) → Bytes (joined writer b l)
 bytes-joined b p [] = none
 bytes-joined b p (t ∷ l) =
-    bytes-append (bytes-be 2 (kindOf (t .«stat_type»)))
-    (bytes-append (bytes-be 2 (t .«stat_len»)) (bytes-append (data-bytes b p (t .«stat_data»)) (bytes-joined b p l)))
+    bytes-append (bytes-be 2 (t .kind))
+    (bytes-append (bytes-be 2 (t .«stat_len»)) (bytes-append (data-bytes b p (dataIn t)) (bytes-joined b p l)))
 
 pub bytes-written : (m : StatsReport) (b : List ℕ) → Bytes b → Bytes (bytesOf m b)
 bytes-written m b p = bytes-append (bytes-be 4 (m .«stats_count»)) (bytes-joined b p (kept m))
-
-inside-kept : (m : StatsReport) (b : List ℕ) → ((i : ℕ) → i < m .count → Inside b (getD (m .counters) i zeroCounter))
-    → (i : ℕ) → i < length (kept m) → Inside b (getD (kept m) i zeroCounter)
-inside-kept m b inside i h =
-    subst (Inside b) (sym (kept-at (m .counters) (m .count) i zeroCounter h)) (inside i (kept-below (m .counters) (m .count) i h))
 
 pub writable-from : (m : StatsReport) (b : List ℕ) → length (m .counters) ≡ places
     → ((i : ℕ) → i < m .count → Inside b (getD (m .counters) i zeroCounter))
@@ -78,13 +95,16 @@ writable-from m b long inside q x view-so r =
     let count-is : m .«stats_count» ≡ m .count = same .stats-count-same ∙ x .reading .is-good .count-is ∙ sym n in
     let k : length (kept m) ≡ m .count = length-take-le (m .count) (m .counters) (omega (arith, long, few)) in
     let v : AllAt sizeOf (ViewAt s) 4 (q .stats) = subst (λ (z : List ℕ). AllAt sizeOf (ViewAt z) 4 (q .stats)) (x .reading .joined) view-so in
+    let rest = replicate (places - length (q .stats)) zeroCounter in
+    let same-kept : (i : ℕ) → i < length (kept m) → SameCounter (getD (kept m) i zeroCounter) b (getD (shownFrom sizeOf entry 4 (q .stats) ++ rest) i zeroCounter) s =
+    kept-each (λ i t. SameCounter t b (getD (shown q .report .counters) i zeroCounter) s) (m .counters) (m .count) zeroCounter (same .counter-same) in
     let each : q .stats ≡ parts writer b (kept m) =
     parts-back writer sizeOf entry (ViewAt s) b (λ t u. SameCounter t b u s) zeroCounter (λ at x t. one-part b s at x t)
-    (replicate (places - length (q .stats)) zeroCounter) (kept m) (q .stats) 4 (k ∙ n) v
-    (λ i h. subst (λ (t : StatCounter). SameCounter t b (getD (shown q .report .counters) i zeroCounter) s) (sym (kept-at (m .counters) (m .count) i zeroCounter h)) (same .counter-same i (kept-below (m .counters) (m .count) i h))) in
+    rest (kept m) (q .stats) 4 (k ∙ n) v same-kept in
     let z : q .tail ≡ [] =
     no-tail putStat (λ t. 4 + length (valueBytes (t .value))) (λ t. put-tlv-long (asTlv t)) (parts writer b (kept m)) (q .tail)
     (ap (λ (l : List Stat). joinAll putStat l (q .tail)) (sym each) ∙ behind (q .count) (m .«stats_count») _ _ (x .reading .joined)) in
     let good : EachGood putStat GoodStat (parts writer b (kept m)) [] =
     subst (λ (l : List Stat). EachGood putStat GoodStat l []) each (subst (EachGood putStat GoodStat (q .stats)) z (x .reading .is-good .each)) in
-    rw (le-ltb places (m .count) few, eq-eqb (m .«stats_count») (m .count) count-is) (all-fine b (kept m) good (inside-kept m b inside))
+    rw (le-ltb places (m .count) few, eq-eqb (m .«stats_count») (m .count) count-is)
+    (all-fine b (kept m) good (kept-each (λ i. Inside b) (m .counters) (m .count) zeroCounter inside) (all-plain b s rest (kept m) (q .stats) 4 (k ∙ n) v same-kept))

@@ -2,7 +2,7 @@
 use mathlib.Core.Path.{_≡_, refl, sym, ap, _∙_, subst}
 use mathlib.Core.Bool.{true}
 use mathlib.Core.List.{List}
-use Prim.Native.Nat.{ℕ, _≤_}
+use Prim.Native.Nat.{ℕ, _+_, _≤_}
 use native.Mathlib.Omega.{arith}
 use lib.ListN.{length, getD}
 use lib.Seq.{getD-take, length-take-le}
@@ -12,25 +12,23 @@ use Rattle.wire.specs.Parts.{AllAt}
 use Rattle.writing.specs.Table.{joined, allOk}
 use Rattle.writing.proofs.Table.{all-good, length-parts}
 use Rattle.writing.proofs.Trip.{each-same, end-sizes}
-use Rattle.stats_data_writer.proofs.Written.{fine-of, data-bytes}
-use Rattle.stats_type.specs.Shown.{kindOf}
-use Rattle.stats_type.proofs.Promises.{kind-of-type}
+use Rattle.stats_data_writer.proofs.Written.{data-bytes}
 use Rattle.stats_report.specs.Grammar.{GoodStat, Good, places, sizeOf}
-use Rattle.stats_report.specs.Shown.{zeroCounter, entry, shown}
+use Rattle.stats_report.specs.Shown.{zeroCounter, entry, dataIn, shown}
 use Rattle.stats_report.specs.Read.{readStats}
 use Rattle.stats_report_writer.specs.Write.{partOf, counterWritable, writer, kept, readingOf, bytesOf, SameCounter, Same}
 use Rattle.stats_report.specs.declared.StatCounter.{StatCounter}
 use Rattle.stats_report.specs.declared.StatsReport.{StatsReport}
 use Rattle.stats_report.specs.declared.StatsAnswer.{StatsAnswer}
-use Rattle.stats_report_writer.proofs.Written.{Writes, length-bytes}
+use Rattle.stats_report_writer.proofs.Written.{own-of, is-plain, fine, Writes, length-bytes}
 use Rattle.stats_report.proofs.Shows.{ViewAt}
 
 good-part : (b : List ℕ) → Bytes b → (t : StatCounter) (l : List StatCounter) → counterWritable (length b) t ≡ true → allOk writer (length b) l ≡ true
     → GoodStat (partOf b t) (joined writer b l)
 good-part b p t l e w =
-    let f = fine-of b (kindOf (t .«stat_type»)) (t .«stat_len») (t .«stat_data») e in
+    let f = fine b t e in
     record {
-      well-formed = record { kind-fits = f .kind-fits; size-fits = f .size-fits; size-is = f .size-is; value-bytes = data-bytes b p (t .«stat_data») };
+      well-formed = record { kind-fits = f .kind-fits; size-fits = f .size-fits; size-is = f .size-is; value-bytes = data-bytes b p (dataIn t) };
       value-good = f .value-good;
     }
 
@@ -49,7 +47,9 @@ good-of m b p long x =
 
 same-counter : (b s : List ℕ) (n at : ℕ) (t : StatCounter) → counterWritable (length b) t ≡ true → ViewAt s at (partOf b t)
     → SameCounter t b (entry at (partOf b t)) s
-same-counter b s n at t o v = record { kind-same = sym (kind-of-type (kindOf (t .«stat_type»))); len-same = refl; data-same = sym v }
+same-counter b s n at t o v =
+    let own = own-of b (at + 4) t (is-plain (length b) t o) in
+    record { kind-same = refl; len-same = refl; afi-same = own .afi-is; safi-same = own .safi-is; number-same = own .number-is; data-same = sym v }
 
 -- the bytes s are read as the record m, whose views point into b, to their end
 pub record ReadsBack (m : StatsReport) (b s : List ℕ) : Type 0 where

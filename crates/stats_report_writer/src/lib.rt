@@ -9,8 +9,9 @@ ghost use lib.ListN.{length};
 ghost use lib.Seq.{sets};
 ghost use Rattle.writing.specs.Write.{putAt, writeAnswer, written};
 ghost use Rattle.writing.specs.Table.{sizes};
-ghost use Rattle.stats_report_writer.specs.Write.{counterWritable, writer, oneCounter, kept, bytesOf, writable};
+ghost use Rattle.stats_report_writer.specs.Write.{plain, counterWritable, writer, oneCounter, kept, bytesOf, writable};
 
+// Writes the report, whose views point into the buffer, to the front of the output.
 pub fn write_stats_report(report: StatsReport, buffer: &[u8], out: &mut [u8]) -> WriteAnswer
     ensures { λ r. ⌜ r ≡ writeAnswer (writable report (length (now (buffer .entry)))) (length (bytesOf report (now (buffer .entry)))) (length (now (out .entry))) ⌝ }
     ensures { λ _. ⌜ now (out .exit) ≡ written (writable report (length (now (buffer .entry)))) (bytesOf report (now (buffer .entry))) (now (out .entry)) ⌝ }
@@ -50,14 +51,30 @@ fn is_writable(report: StatsReport, room: usize) -> bool
 fn counter_writable(counter: StatCounter, room: usize) -> bool
     ensures { λ r. ⌜ r ≡ counterWritable room counter ⌝ }
 {
-    let stat_type = counter.stat_type;
-    let stat_data = counter.stat_data;
-    stats_data_writer::data_writable(
-        stats_type::kind_of(stat_type),
-        counter.stat_len,
-        stat_data,
-        room,
-    )
+    if !is_plain(counter) {
+        return false;
+    }
+    let stat_data = counter.stat_data();
+    stats_data_writer::data_writable(counter.kind, counter.stat_len, stat_data, room)
+}
+
+// Whether the reader could show these numbers: a part that the form does not use is zero, a SAFI has one byte and a counter four.
+fn is_plain(counter: StatCounter) -> bool
+    ensures { λ r. ⌜ r ≡ plain counter ⌝ }
+{
+    if counter.stat_len == 11 {
+        return counter.safi < 256;
+    }
+    if counter.afi != 0 {
+        return false;
+    }
+    if counter.safi != 0 {
+        return false;
+    }
+    if counter.stat_len == 4 {
+        return counter.value < 4_294_967_296;
+    }
+    true
 }
 
 fn written_length(report: StatsReport) -> usize
@@ -103,9 +120,8 @@ fn put_counter(out: &mut [u8], at: usize, counter: StatCounter, buffer: &[u8])
     requires { ⌜ at + length (oneCounter (now buffer) counter) ≤ length (now out) ⌝ }
     ensures { λ _. ⌜ now (out .exit) ≡ putAt (now (out .entry)) at (oneCounter (now (buffer .entry)) counter) ⌝ }
 {
-    let stat_type = counter.stat_type;
-    let stat_data = counter.stat_data;
-    put_numbers::put_u16(out, at, stats_type::kind_of(stat_type));
+    let stat_data = counter.stat_data();
+    put_numbers::put_u16(out, at, counter.kind);
     put_numbers::put_u16(out, at + 2, counter.stat_len);
     stats_data_writer::put_data(out, at + 4, stat_data, buffer);
 }

@@ -17,13 +17,16 @@ use Rattle.wire.specs.TlvAt.{unread}
 use Rattle.wire.specs.Bytes.{Bytes}
 use Rattle.wire.specs.Lacking.{CutAfter}
 use Rattle.termination_message.specs.Grammar.{sizeOf, Reading, join, Good, grammar, places, put, ReadTlv}
-use Rattle.termination_message.specs.Shown.{typeOf, refusedAnswer, shown}
+use Rattle.termination_message.specs.Shown.{typeOf, reasonOf, codeOf, valueOf, refusedAnswer, shown}
 use Rattle.termination_message.specs.Read.{kit, readTermination, reader, answer, widthsIn}
+use Rattle.termination_message.specs.declared.TerminationReason.{TerminationReason}
+use Rattle.termination_message.specs.declared.TerminationReason.the-variants.{AdministrativelyClosed, UnspecifiedReason, OutOfResources, RedundantConnection, PermanentlyAdministrativelyClosed}
+use Rattle.termination_message.specs.declared.TerminationTlv.{TerminationTlv}
 use Rattle.termination_message.specs.declared.TerminationTlvType.{TerminationTlvType}
 use Rattle.termination_message.specs.declared.TerminationTlvValue.{TerminationTlvValue}
 use Rattle.termination_message.specs.declared.TerminationAnswer.{TerminationAnswer}
 use Rattle.termination_message.proofs.Laws.{faults, laws, tails}
-use Rattle.termination_message.proofs.Shows.{shows-of, ValueAt, value-at}
+use Rattle.termination_message.proofs.Shows.{shows-of, ValueAt, code-told, value-at}
 use Rattle.termination_message.proofs.Told as ToldProofs
 use Rattle.termination_message.proofs.Refusals as Refusals
 use Rattle.termination_message.proofs.Cuts as Cuts
@@ -67,11 +70,31 @@ unique r q g h e =
 pub views : (r : Reading) → Good r → AllAt sizeOf (ValueAt (join r)) 0 (r .tlvs)
 views r g = each-at kit laws (ValueAt (join r)) (join r) (value-at (join r)) (r .tlvs) (putTail (r .tail)) 0 (g .each) refl
 
+-- The name of each code that the reader lets in stands for that code, and each name is that of its code.
+pub reason-code : (n : ℕ) → n ≤ 4 → codeOf (reasonOf n) ≡ n
+reason-code = code-told
+
+pub code-reason : (x : TerminationReason) → reasonOf (codeOf x) ≡ x
+unfolding reasonOf codeOf
+code-reason AdministrativelyClosed = refl
+code-reason UnspecifiedReason = refl
+code-reason OutOfResources = refl
+code-reason RedundantConnection = refl
+code-reason PermanentlyAdministrativelyClosed = refl
+
 -- A Cut is at the first part that is not whole, behind TLVs that are.
 pub refuses-cut : (s : List ℕ) → Bytes s → readTermination s .refusal .number ≡ Number.Cut → CutAfter put ReadTlv sizeOf widthsIn 0 s (readTermination s .refusal .place)
 refuses-cut = Cuts.refuses-cut
 
 -- ---- any two answers that the contracts allow are equal
+-- Two numbers that code may tell of the same reason are equal.
+pub code-determined : (x : TerminationReason) (r q : ℕ) → r ≡ codeOf x → q ≡ codeOf x → r ≡ q
+code-determined x r q = determined
+
+-- Two values that info_value may tell of the same entry are equal.
+pub info-value-determined : (t : TerminationTlv) (r q : TerminationTlvValue) → r ≡ valueOf t → q ≡ valueOf t → r ≡ q
+info-value-determined t r q = determined
+
 -- Two types that info_type may tell of the same value are equal.
 pub info-type-determined : (x : TerminationTlvValue) (r q : TerminationTlvType) → r ≡ typeOf x → q ≡ typeOf x → r ≡ q
 info-type-determined x r q = determined

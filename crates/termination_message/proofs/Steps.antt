@@ -19,10 +19,9 @@ use Rattle.wire.specs.Walk.{stop, bad, item, from}
 use Rattle.wire.specs.declared.Refusal.{Refusal}
 use Rattle.cursor.specs.declared.Cursor.{Cursor}
 use Rattle.wire.proofs.Tlv.{NoTlv}
-use Rattle.termination_message.specs.Grammar.{Tlv, sizeOf}
-use Rattle.termination_message.specs.Shown.{stringEntry, reasonEntry, entry}
+use Rattle.termination_message.specs.Grammar.{Tlv, string, reason, sizeOf}
+use Rattle.termination_message.specs.Shown.{entry}
 use Rattle.termination_message.specs.Read.{stringIn, reasonIn, step, asStep, stepAt}
-use Rattle.termination_message.specs.declared.TerminationTlv.{TerminationTlv}
 use Rattle.termination_message.specs.declared.Step.the-variants.{Stop, Bad, Whole}
 
 -- bytes that begin with a TLV of this type, whose length does not exceed what follows it
@@ -152,11 +151,11 @@ module _ (s : List ℕ) (at : ℕ) where
       begun-at : (k : ℕ) → kind ≡ k → size ≤ length s - place → Begun (drop at s) k
       begun-at k e h = record { long = long′; kind-is = kind-is ∙ e; there = rw (length-drop, size-is) (omega arith) }
 
-      pub string-at : kind ≡ 0 → size ≤ length s - place → stepAt s at ≡ Whole (stringEntry size place) (cursor (place + size))
+      pub string-at : kind ≡ 0 → size ≤ length s - place → stepAt s at ≡ Whole kind size place (cursor (place + size))
       string-at k h =
           let there : at + (4 + numAt 2 (drop at s) 2) ≡ place + size = omega arith in
           ap (asStep at (drop at s)) (of (drop at s) (text (begun-at 0 k h)))
-          ∙ (λ i. Whole (stringEntry (size-is i) (sym place-is i)) (cursor (there i)))
+          ∙ (λ i. Whole (sym k i) (size-is i) (sym place-is i) (cursor (there i)))
 
       module _ (one : kind ≡ 1) (fits : size ≤ length s - place) where
         pub lacking-at : length s - place < 2 → stepAt s at ≡ Bad (cutAt place)
@@ -166,11 +165,11 @@ module _ (s : List ℕ) (at : ℕ) where
           pub unknown-at : 4 < code → stepAt s at ≡ Bad (refusal Number.UnknownKind place)
           unknown-at h = rw (of (drop at s) (unknown (begun-at 1 one fits) (rw length-drop (omega arith)) (rw code-is h)), place-is)
 
-          pub known-at : code ≤ 4 → (c : Cursor) → c .at ≡ place + 2 → stepAt s at ≡ Whole (reasonEntry size code) c
+          pub known-at : code ≤ 4 → (c : Cursor) → c .at ≡ place + 2 → stepAt s at ≡ Whole kind size code c
           known-at h c e =
               let there : at + 6 ≡ c .at = omega arith in
               ap (asStep at (drop at s)) (of (drop at s) (known (begun-at 1 one fits) (rw length-drop (omega arith)) (rw code-is h)))
-              ∙ (λ i. Whole (reasonEntry (size-is i) (code-is i)) (cursor (there i)))
+              ∙ (λ i. Whole (sym one i) (size-is i) (code-is i) (cursor (there i)))
 
 -- ---- and the other way
 pub was-stop : (at p : ℕ) (s : List ℕ) → asStep at s (step s) ≡ Stop p → (step s ≡ stop) × (p ≡ stopAt at (tailOf s))
@@ -189,11 +188,21 @@ was-bad at r s e = go (step s) refl e
     go (bad d) h q = (d, h, cc)
     go (item t) h q = (r, cc, cc)
 
-pub was-whole : (at : ℕ) (u : TerminationTlv) (c : Cursor) (s : List ℕ) → asStep at s (step s) ≡ Whole u c
-    → (t : Tlv) × (step s ≡ item t) × (entry at t ≡ u) × (at + sizeOf t ≡ c .at)
-was-whole at u c s e = go (step s) refl e
+pub was-whole : (at kind size value : ℕ) (c : Cursor) (s : List ℕ) → asStep at s (step s) ≡ Whole kind size value c
+    → (t : Tlv) × (step s ≡ item t) × (entry at t ≡ record { kind = kind; «info_len» = size; value = value }) × (at + sizeOf t ≡ c .at)
+was-whole at kind size value c s e = go (step s) refl e
   where
-    go : (x : Walk.Step Tlv) → step s ≡ x → asStep at s x ≡ Whole u c → (t : Tlv) × (step s ≡ item t) × (entry at t ≡ u) × (at + sizeOf t ≡ c .at)
-    go stop h q = (stringIn s, cc, cc, cc)
-    go (bad r) h q = (stringIn s, cc, cc, cc)
-    go (item t) h q = (t, h, cc, cc)
+    go : (x : Walk.Step Tlv) → step s ≡ x → asStep at s x ≡ Whole kind size value c
+        → (t : Tlv) × (step s ≡ item t) × (entry at t ≡ record { kind = kind; «info_len» = size; value = value }) × (at + sizeOf t ≡ c .at)
+    go stop h q = let z : _≡_ {A = ℕ} 0 1 = cc in absurd (omega arith)
+    go (bad r) h q = let z : _≡_ {A = ℕ} 0 1 = cc in absurd (omega arith)
+    go (item (string n l)) h q =
+        let kind-is : 0 ≡ kind = cc in
+        let size-is : n ≡ size = cc in
+        let value-is : at + 4 ≡ value = cc in
+        (string n l, h, λ i. record { kind = kind-is i; «info_len» = size-is i; value = value-is i }, cc)
+    go (item (reason n code)) h q =
+        let kind-is : 1 ≡ kind = cc in
+        let size-is : n ≡ size = cc in
+        let value-is : code ≡ value = cc in
+        (reason n code, h, λ i. record { kind = kind-is i; «info_len» = size-is i; value = value-is i }, cc)

@@ -43,11 +43,11 @@ widthsIn s = tlvWidths 2
 abbrev pub kit : Kit
 kit = record { Item = Tlv; Entry = TerminationTlv; step = step; size = sizeOf; entry = entry; none = zeroTlv; limit = places }
 
--- one step at a place, as the code answers it: the stop, a fault, or the entry and the cursor past it
+-- one step at a place, as the code answers it: the stop, a fault, or the numbers of the entry and the cursor past it
 abbrev pub asStep : ℕ → List ℕ → Walk.Step Tlv → Step
 asStep at s stop = Stop (stopAt at (tailOf s))
 asStep at s (bad r) = Bad (from at r)
-asStep at s (item t) = Whole (entry at t) (cursor (at + sizeOf t))
+asStep at s (item t) = Whole (entry at t .kind) (entry at t .«info_len») (entry at t .value) (cursor (at + sizeOf t))
 
 abbrev pub stepAt : List ℕ → ℕ → Step
 stepAt s at = asStep at (drop at s) (step (drop at s))

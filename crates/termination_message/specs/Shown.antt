@@ -1,13 +1,16 @@
 -- How a reading is shown in the answer. Nothing here takes an input apart.
 use Prim.Native.Nat.{ℕ, _+_, _-_}
 use mathlib.Core.List.{List, [], _∷_, _++_}
+use lib.Dec.{eqb}
 use lib.ListN.{length, replicate, getD}
+use Rattle.wire.specs.Bytes.{pick}
 use Rattle.wire.specs.Refusal.{noRefusal}
 use Rattle.wire.specs.View.{view}
 use Rattle.wire.specs.Parts.{shownFrom, endFrom}
 use Rattle.wire.specs.TlvAt.{stopAt}
 use Rattle.wire.specs.Tlv.{Tail}
 use Rattle.wire.specs.declared.Refusal.{Refusal}
+use Rattle.wire.specs.declared.View.{View}
 use Rattle.termination_message.specs.Grammar.{Tlv, string, reason, sizeOf, Reading, places}
 use Rattle.termination_message.specs.declared.TerminationTlvType.{TerminationTlvType}
 use Rattle.termination_message.specs.declared.TerminationTlvValue.{TerminationTlvValue}
@@ -21,7 +24,7 @@ unfoldable pub typeOf : TerminationTlvValue → TerminationTlvType
 typeOf (TerminationTlvValue.String v) = TerminationTlvType.String
 typeOf (TerminationTlvValue.Reason r) = TerminationTlvType.Reason
 
--- the reasons 0 to 3 by their numbers; 4 is the last, and what is above it is refused before it is named
+-- the reasons 0 to 3 by their numbers; 4 is the last, and what is above it, which the reader refuses, has its name too
 abbrev pub names : List TerminationReason
 names = AdministrativelyClosed ∷ UnspecifiedReason ∷ OutOfResources ∷ RedundantConnection ∷ []
 
@@ -35,23 +38,24 @@ codeOf OutOfResources = 2
 codeOf RedundantConnection = 3
 codeOf PermanentlyAdministrativelyClosed = 4
 
--- a String whose value starts at a place, and a Reason by its number
-abbrev pub stringEntry : ℕ → ℕ → TerminationTlv
-stringEntry size place = record { «info_len» = size; «info_value» = TerminationTlvValue.String (view place size) }
+-- the view of a String, whose number is its place
+abbrev pub textOf : TerminationTlv → View
+textOf t = view (t .value) (t .«info_len»)
 
-abbrev pub reasonEntry : ℕ → ℕ → TerminationTlv
-reasonEntry size code = record { «info_len» = size; «info_value» = TerminationTlvValue.Reason (reasonOf code) }
+-- what an entry's value is: type 0 is a String, every other a Reason, whose number is its code
+abbrev pub valueOf : TerminationTlv → TerminationTlvValue
+valueOf t = pick (eqb (t .kind) 0) (TerminationTlvValue.String (textOf t)) (TerminationTlvValue.Reason (reasonOf (t .value)))
 
 abbrev pub zeroTlv : TerminationTlv
-zeroTlv = stringEntry 0 0
+zeroTlv = record { kind = 0; «info_len» = 0; value = 0 }
 
 unfoldable pub zeroTable : List TerminationTlv
 zeroTable = replicate places zeroTlv
 
 -- a TLV as the table shows it, where it starts at a place
 abbrev pub entry : ℕ → Tlv → TerminationTlv
-entry at (string size value) = stringEntry size (at + 4)
-entry at (reason size code) = reasonEntry size code
+entry at (string size value) = record { kind = 0; «info_len» = size; value = at + 4 }
+entry at (reason size code) = record { kind = 1; «info_len» = size; value = code }
 
 abbrev pub goodAnswer : ℕ → ℕ → List TerminationTlv → Tail → TerminationAnswer
 goodAnswer count end table t =

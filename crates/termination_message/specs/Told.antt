@@ -6,7 +6,7 @@ use Rattle.wire.specs.TlvAt.{tailOf}
 use Rattle.wire.specs.Exactly.{Nothing}
 use Rattle.wire.specs.declared.View.{View}
 use Rattle.termination_message.specs.Grammar.{Tlv, string, reason, Reading}
-use Rattle.termination_message.specs.Shown.{codeOf}
+use Rattle.termination_message.specs.Shown.{codeOf, valueOf}
 use Rattle.termination_message.specs.declared.TerminationTlvValue.{TerminationTlvValue}
 use Rattle.termination_message.specs.declared.TerminationTlv.{TerminationTlv}
 use Rattle.termination_message.specs.declared.TerminationAnswer.{TerminationAnswer}
@@ -16,7 +16,7 @@ toldValue look size (TerminationTlvValue.String v) = string size (look v)
 toldValue look size (TerminationTlvValue.Reason c) = reason size (codeOf c)
 
 abbrev pub toldTlv : (View → List ℕ) → TerminationTlv → Tlv
-toldTlv look t = toldValue look (t .«info_len») (t .«info_value»)
+toldTlv look t = toldValue look (t .«info_len») (valueOf t)
 
 abbrev pub told : (View → List ℕ) → TerminationAnswer → Nothing → List ℕ → Reading
 told look a x tail = record { tlvs = itemsIn (toldTlv look) (a .message .count) (a .message .tlvs); tail = tailOf tail }

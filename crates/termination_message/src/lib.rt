@@ -1,11 +1,15 @@
 // The body of a BMP Termination message (RFC 7854, section 4.5).
 use cursor::Cursor;
 use cursor::ReadU16;
+use tlv_head::TlvHead;
 use wire::Refusal;
 use wire::View;
 ghost use mathlib.Core.Path.{_≡_};
+ghost use Prim.Native.Nat.{_≤_};
+ghost use lib.ListN.{length};
+ghost use Rattle.wire.specs.Number as Number;
 ghost use Rattle.wire.specs.Refusal.{refusal};
-ghost use Rattle.termination_message.specs.Shown.{typeOf, reasonOf, stringEntry, reasonEntry, zeroTlv, refusedAnswer};
+ghost use Rattle.termination_message.specs.Shown.{typeOf, reasonOf, codeOf, valueOf, zeroTlv, refusedAnswer};
 ghost use Rattle.termination_message.specs.Read.{stepAt, readTermination};
 
 pub enum TerminationTlvType {
@@ -26,10 +30,12 @@ pub enum TerminationTlvValue {
     Reason(TerminationReason),
 }
 
-// A Reason's length is kept as it stands: the reader takes two bytes of value whatever it holds.
+// A TLV as the wire has it: its type, its length, and the place of a String's value or the code of a Reason. A Reason's length is
+// kept as it stands: the reader takes two bytes of value whatever it holds.
 pub struct TerminationTlv {
+    pub kind: u16,
     pub info_len: u16,
-    pub info_value: TerminationTlvValue,
+    pub value: u32,
 }
 
 pub struct TerminationMessage {
@@ -45,15 +51,46 @@ pub struct TerminationAnswer {
     pub message: TerminationMessage,
 }
 
-// What stands at a place of the walk: its end with the stop place, a fault, or a TLV and the cursor past it.
+// What stands at a place of the walk: its end with the stop place, a fault, or the three numbers of a TLV and the cursor past it.
 enum Step {
     Stop(usize),
     Bad(Refusal),
-    Whole(TerminationTlv, Cursor),
+    Whole(u16, u16, u32, Cursor),
+}
+
+impl TerminationReason {
+    // The number that stands for the reason on the wire.
+    pub fn code(self) -> u16
+        ensures { λ r. ⌜ r ≡ codeOf self ⌝ }
+    {
+        match self {
+            TerminationReason::AdministrativelyClosed => 0,
+            TerminationReason::UnspecifiedReason => 1,
+            TerminationReason::OutOfResources => 2,
+            TerminationReason::RedundantConnection => 3,
+            TerminationReason::PermanentlyAdministrativelyClosed => 4,
+        }
+    }
+}
+
+impl TerminationTlv {
+    // Where a String's value stands, or the name of a Reason: type 0 is a String, every other a Reason.
+    pub fn info_value(self) -> TerminationTlvValue
+        ensures { λ r. ⌜ r ≡ valueOf self ⌝ }
+    {
+        let value = self.value;
+        if self.kind == 0 {
+            return TerminationTlvValue::String(View {
+                place: value as usize,
+                length: self.info_len as usize,
+            });
+        }
+        TerminationTlvValue::Reason(reason_of(value))
+    }
 }
 
 impl TerminationTlvValue {
-    // The TLV's type is told by its value, so that no second field can disagree with it.
+    // The type of a TLV that has this value.
     pub fn info_type(self) -> TerminationTlvType
         ensures { λ r. ⌜ r ≡ typeOf self ⌝ }
     {
@@ -64,11 +101,12 @@ impl TerminationTlvValue {
     }
 }
 
+// Reads the body of a Termination message: its TLVs, up to 32, and where its tail starts.
 pub fn parse_termination_message(s: &[u8]) -> TerminationAnswer
     ensures { λ r. ⌜ r ≡ readTermination (now (s .entry)) ⌝ }
 {
     if wire::LIMIT < s.len() {
-        return refused(fault(wire::TOO_LONG, 0));
+        return refused(refusal_at(wire::TOO_LONG, 0));
     }
     let zero = zero_tlv();
     let mut tlvs = [zero; 32];
@@ -78,21 +116,22 @@ pub fn parse_termination_message(s: &[u8]) -> TerminationAnswer
         match step_at(s, at) {
             Step::Stop(place) => break place,
             Step::Bad(refusal) => return refused(refusal),
-            Step::Whole(tlv, next) => {
+            Step::Whole(kind, size, value, next) => {
                 if 32 <= count {
-                    return refused(fault(wire::TOO_MANY, at));
+                    return refused(refusal_at(wire::TOO_MANY, at));
                 }
-                tlvs[count] = tlv;
+                tlvs[count] = TerminationTlv {
+                    kind: kind,
+                    info_len: size,
+                    value: value,
+                };
                 count += 1;
                 at = next.at;
             }
         }
     };
     TerminationAnswer {
-        refusal: Refusal {
-            number: wire::GOOD,
-            place: 0,
-        },
+        refusal: refusal_at(wire::GOOD, 0),
         stop: stop,
         tail: at,
         message: TerminationMessage {
@@ -104,21 +143,16 @@ pub fn parse_termination_message(s: &[u8]) -> TerminationAnswer
 
 // The type is judged before the length. A Reason ends behind its two bytes, and not where its length says.
 fn step_at(s: &[u8], at: usize) -> Step
+    requires { ⌜ length (now s) ≤ Number.limit ⌝ }
     ensures { λ r. ⌜ r ≡ stepAt (now (s .entry)) at ⌝ }
 {
-    if wire::left(s, at) <= 4 {
-        return Step::Stop(at);
-    }
     let start = Cursor { at: at };
-    let ReadU16::Good(kind, after_kind) = start.read_u16(s) else {
+    let TlvHead::Found(kind, size, value) = tlv_head::read_head(start, s, 1) else {
         return Step::Stop(at);
     };
-    let ReadU16::Good(size, after_size) = after_kind.read_u16(s) else {
-        return Step::Stop(at);
-    };
-    let place = after_size.at;
+    let place = value.at;
     let end = place + (size as usize);
-    let unknown = fault(wire::UNKNOWN_KIND, at);
+    let unknown = refusal_at(wire::UNKNOWN_KIND, at);
     if 1 < kind {
         return Step::Bad(unknown);
     }
@@ -126,41 +160,21 @@ fn step_at(s: &[u8], at: usize) -> Step
         return Step::Stop(place);
     }
     if kind == 0 {
-        return Step::Whole(string_tlv(size, place), Cursor { at: end });
+        return Step::Whole(kind, size, place as u32, Cursor { at: end });
     }
-    let ReadU16::Good(code, after_code) = after_size.read_u16(s) else {
-        return Step::Bad(wire::cut_at(place));
-    };
-    if 4 < code {
-        return Step::Bad(fault(wire::UNKNOWN_KIND, place));
-    }
-    Step::Whole(reason_tlv(size, code), after_code)
-}
-
-fn string_tlv(size: u16, place: usize) -> TerminationTlv
-    ensures { λ r. ⌜ r ≡ stringEntry size place ⌝ }
-{
-    let view = View {
-        place: place,
-        length: size as usize,
-    };
-    TerminationTlv {
-        info_len: size,
-        info_value: TerminationTlvValue::String(view),
+    match value.read_u16(s) {
+        ReadU16::Cut(refusal) => Step::Bad(refusal),
+        ReadU16::Good(code, next) => {
+            if 4 < code {
+                return Step::Bad(refusal_at(wire::UNKNOWN_KIND, place));
+            }
+            Step::Whole(kind, size, code as u32, next)
+        }
     }
 }
 
-fn reason_tlv(size: u16, code: u16) -> TerminationTlv
-    ensures { λ r. ⌜ r ≡ reasonEntry size code ⌝ }
-{
-    let reason = reason_of(code);
-    TerminationTlv {
-        info_len: size,
-        info_value: TerminationTlvValue::Reason(reason),
-    }
-}
-
-fn reason_of(code: u16) -> TerminationReason
+// The name of a code; all above 3 have the last, of which the reader lets only 4 in.
+fn reason_of(code: u32) -> TerminationReason
     ensures { λ r. ⌜ r ≡ reasonOf code ⌝ }
 {
     match code {
@@ -175,10 +189,14 @@ fn reason_of(code: u16) -> TerminationReason
 fn zero_tlv() -> TerminationTlv
     ensures { λ r. ⌜ r ≡ zeroTlv ⌝ }
 {
-    string_tlv(0, 0)
+    TerminationTlv {
+        kind: 0,
+        info_len: 0,
+        value: 0,
+    }
 }
 
-fn fault(number: u8, place: usize) -> Refusal
+fn refusal_at(number: u8, place: usize) -> Refusal
     ensures { λ r. ⌜ r ≡ refusal number place ⌝ }
 {
     Refusal {

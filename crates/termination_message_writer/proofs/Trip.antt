@@ -1,6 +1,6 @@
 -- A record that was written and is read again. Assumes nothing.
 use mathlib.Core.Path.{_≡_, refl, sym, ap, _∙_, subst}
-use mathlib.Core.Bool.{true, false}
+use mathlib.Core.Bool.{true}
 use mathlib.Core.List.{List}
 use Prim.Native.Nat.{ℕ, _+_, _≤_}
 use native.Mathlib.Omega.{arith}
@@ -8,49 +8,42 @@ use lib.ListN.{length}
 use lib.Seq.{length-take-le}
 use Rattle.wire.specs.Number as Number
 use Rattle.wire.specs.Bytes.{Bytes, none}
+use Rattle.wire.specs.View.{viewed, view}
 use Rattle.wire.specs.Parts.{AllAt}
 use Rattle.wire.proofs.Tlv.{tlv-length}
 use Rattle.writing.specs.Table.{joined, allOk}
 use Rattle.writing.proofs.Tlv.{tlv-good}
-use Rattle.writing.proofs.Table.{all-good, length-parts, length-sizes, Kept}
+use Rattle.writing.proofs.Table.{all-good, length-parts, length-sizes, length-joined, Kept}
 use Rattle.writing.proofs.Trip.{table-same, end-sizes}
-use Rattle.tlv_table.proofs.Translated.{length-translated}
-use Rattle.termination_message.specs.Grammar.{sizeOf, ReadTlv, Good, places}
-use Rattle.termination_message.specs.Shown.{codeOf, zeroTlv, entry, shown}
+use Rattle.termination_message.specs.Grammar.{Tlv, sizeOf, ReadTlv, Good, places}
+use Rattle.termination_message.specs.Shown.{textOf, zeroTlv, entry, shown}
 use Rattle.termination_message.specs.Read.{readTermination}
-use Rattle.termination_message_writer.specs.Write.{partOf, tlvWritable, writer, kept, readingOf, bytesOf, entryOf, SameValue, SameTlv, Same}
-use Rattle.termination_message.specs.declared.TerminationReason.{TerminationReason}
-use Rattle.termination_message.specs.declared.TerminationReason.the-variants.{AdministrativelyClosed, UnspecifiedReason, OutOfResources, RedundantConnection, PermanentlyAdministrativelyClosed}
-use Rattle.termination_message.specs.declared.TerminationTlvValue.{TerminationTlvValue}
+use Rattle.termination_message_writer.specs.Write.{partOf, tlvWritable, writer, kept, readingOf, bytesOf, SameTlv, Same}
 use Rattle.termination_message.specs.declared.TerminationTlv.{TerminationTlv}
 use Rattle.termination_message.specs.declared.TerminationMessage.{TerminationMessage}
 use Rattle.termination_message.specs.declared.TerminationAnswer.{TerminationAnswer}
-use Rattle.termination_message_writer.proofs.Written.{Fine, fine-of, translates}
+use Rattle.termination_message_writer.proofs.Written.{part-text, part-code, Fine, a-text, a-code, fine-of, bodied}
 use Rattle.termination_message.proofs.Shows.{ValueAt}
 
-code-small : (r : TerminationReason) → codeOf r ≤ 4
-unfolding codeOf
-code-small AdministrativelyClosed = omega arith
-code-small UnspecifiedReason = omega arith
-code-small OutOfResources = omega arith
-code-small RedundantConnection = omega arith
-code-small PermanentlyAdministrativelyClosed = omega arith
+-- a code's type is no String's
+coded : (t : TerminationTlv) → t .kind ≡ 1 → t .kind ≡ 0 → ⊥
+coded t k z = omega arith
 
 -- ---- the reading of a writable record is good
-read-value : (b : List ℕ) → Bytes b → (after size : ℕ) (x : TerminationTlvValue) (r : List ℕ) → after ≤ length r → Fine (length b) after size x
-    → ReadTlv (partOf b size x) r
-read-value b p after size (TerminationTlvValue.String v) r h f =
-    let g = tlv-good 0 size v b (f .fits) p in
-    record { well-formed = g; more-than-four = omega (arith, tlv-length _ r g, f .not-last-empty, h) }
-read-value b p after size (TerminationTlvValue.Reason q) r h f =
-    record { size-fits = omega (arith, f); size-within = omega (arith, f); code-known = code-small q }
+read-fine : (b : List ℕ) → Bytes b → (after : ℕ) (t : TerminationTlv) (r : List ℕ) → after ≤ length r → Fine (length b) after t → ReadTlv (partOf b t) r
+read-fine b p after t r h (a-text k f) =
+    let g = tlv-good 0 (t .«info_len») (textOf t) b (f .fits) p in
+    subst (λ (x : Tlv). ReadTlv x r) (sym (part-text b t k))
+    (record { well-formed = g; more-than-four = omega (arith, tlv-length _ r g, f .not-last-empty, h) })
+read-fine b p after t r h (a-code k s v) =
+    subst (λ (x : Tlv). ReadTlv x r) (sym (part-code b t (coded t k)))
+    (record { size-fits = omega (arith, s); size-within = omega (arith, s); code-known = v })
 
 read-tlv : (b : List ℕ) → Bytes b → (t : TerminationTlv) (l : List TerminationTlv) → tlvWritable (length b) (length l) t ≡ true → allOk writer (length b) l ≡ true
-    → ReadTlv (partOf b (t .«info_len») (t .«info_value»)) (joined writer b l)
+    → ReadTlv (partOf b t) (joined writer b l)
 read-tlv b p t l e w =
     let n = length-sizes writer (λ u. omega arith) l in
-    read-value b p (length l) (t .«info_len») (t .«info_value») (joined writer b l) (omega (arith, n, length-translated writer 0 false entryOf translates b l w))
-    (fine-of (length b) (length l) t e)
+    read-fine b p (length l) t (joined writer b l) (omega (arith, n, length-joined writer bodied b l w)) (fine-of (length b) (length l) t e)
 
 pub good-of : (m : TerminationMessage) (b : List ℕ) → Bytes b → allOk writer (length b) (kept m) ≡ true → Good (readingOf m b)
 good-of m b p e =
@@ -60,22 +53,23 @@ good-of m b p e =
     }
 
 -- ---- and is shown as the record
-same-value : (b s : List ℕ) (at size : ℕ) (x : TerminationTlvValue) → ValueAt s at (partOf b size x) → SameValue x b (entry at (partOf b size x) .«info_value») s
-same-value b s at size (TerminationTlvValue.String v) w = sym w
-same-value b s at size (TerminationTlvValue.Reason r) w = sym w
+same-fine : (b s : List ℕ) (n at : ℕ) (t : TerminationTlv) → Fine (length b) n t → ValueAt s at (partOf b t) → SameTlv t b (entry at (partOf b t)) s
+same-fine b s n at t (a-text k f) v =
+    let e = part-text b t k in
+    let shows : viewed s (view (at + 4) (t .«info_len»)) ≡ viewed b (textOf t) = subst (ValueAt s at) e v in
+    subst (λ (x : Tlv). SameTlv t b (entry at x) s) (sym e)
+    (record { kind-same = k; len-same = refl; text-same = λ z. sym shows; code-same = λ z. absurd (omega arith) })
+same-fine b s n at t (a-code k z c) v =
+    subst (λ (x : Tlv). SameTlv t b (entry at x) s) (sym (part-code b t (coded t k)))
+    (record { kind-same = k; len-same = refl; text-same = λ q. absurd (coded t k q); code-same = λ q. refl })
 
-len-same : (b : List ℕ) (at size : ℕ) (x : TerminationTlvValue) → size ≡ entry at (partOf b size x) .«info_len»
-len-same b at size (TerminationTlvValue.String v) = refl
-len-same b at size (TerminationTlvValue.Reason r) = refl
+same-tlv : (b s : List ℕ) (n at : ℕ) (t : TerminationTlv) → tlvWritable (length b) n t ≡ true → ValueAt s at (partOf b t)
+    → SameTlv t b (entry at (partOf b t)) s
+same-tlv b s n at t o = same-fine b s n at t (fine-of (length b) n t o)
 
-same-tlv : (b s : List ℕ) (n at : ℕ) (t : TerminationTlv) → tlvWritable (length b) n t ≡ true → ValueAt s at (partOf b (t .«info_len») (t .«info_value»))
-    → SameTlv t b (entry at (partOf b (t .«info_len») (t .«info_value»))) s
-same-tlv b s n at t o v =
-    record { len-same = len-same b at (t .«info_len») (t .«info_value»); value-same = same-value b s at (t .«info_len») (t .«info_value») v }
-
-size-same : (b : List ℕ) (after size : ℕ) (x : TerminationTlvValue) → Fine (length b) after size x → sizeOf (partOf b size x) ≡ 4 + size
-size-same b after size (TerminationTlvValue.String v) f = refl
-size-same b after size (TerminationTlvValue.Reason r) f = omega (arith, f)
+size-same : (b : List ℕ) (n : ℕ) (t : TerminationTlv) → Fine (length b) n t → sizeOf (partOf b t) ≡ 4 + t .«info_len»
+size-same b n t (a-text k f) = ap sizeOf (part-text b t k)
+size-same b n t (a-code k s v) = ap sizeOf (part-code b t (coded t k)) ∙ omega (arith, s)
 
 -- the bytes s are read as the record m, whose views point into b, to their end
 pub record ReadsBack (m : TerminationMessage) (b s : List ℕ) : Type 0 where
@@ -92,8 +86,8 @@ reads-back m b long x a v =
     record {
       read-good = ap (λ (y : TerminationAnswer). y .refusal .number) a;
       whole = ap (λ (y : TerminationAnswer). y .stop) a
-          ∙ end-sizes writer sizeOf entry (ValueAt s) b (λ n t o. size-same b n (t .«info_len») (t .«info_value») (fine-of (length b) n t o)) (kept m) 0 (x .fine)
-          ∙ omega (arith, length-translated writer 0 false entryOf translates b (kept m) (x .fine));
+          ∙ end-sizes writer sizeOf entry (ValueAt s) b (λ n t o. size-same b n t (fine-of (length b) n t o)) (kept m) 0 (x .fine)
+          ∙ omega (arith, length-joined writer bodied b (kept m) (x .fine));
       same = subst (λ (y : TerminationAnswer). Same m b (y .message) s) (sym a) (record {
         count-same = sym (length-parts writer b (kept m) ∙ length-take-le (m .count) (m .tlvs) few);
         tlv-same = table-same writer sizeOf entry (ValueAt s) b (λ t u. SameTlv t b u s) zeroTlv (same-tlv b s) _ (m .tlvs) (m .count) few (x .fine) v;

@@ -1,22 +1,29 @@
 -- What the writing kit asks of a Termination body. Assumes nothing.
 use mathlib.Core.Path.{_≡_, refl, sym, ap, _∙_}
-use mathlib.Core.Bool.{true, false}
-use mathlib.Core.List.{List}
-use Prim.Native.Nat.{ℕ, _+_}
+use mathlib.Core.Bool.{Bool, true, false}
+use mathlib.Core.List.{List, [], _∷_, _++_}
+use Prim.Native.Nat.{ℕ, _+_, _/_, _%_, _≤_}
 use native.Mathlib.Omega.{arith}
-use borrow.Author.Tests.{le-leb, eqb-true, eq-eqb}
+use borrow.Author.Tests.{le-leb, le-ltb, eq-eqb, ne-eqb, leb-true, ltb-false, eqb-true, eqb-false}
+use lib.Dec.{leb, ltb, eqb}
 use lib.ListN.{length, length-map}
 use mir.Val.{Val}
 use denote.Laws.{Is}
 use denote.Struct.Laws as Struct
-use Rattle.wire.specs.Tlv.{putTlv}
-use Rattle.tlv_table.specs.Tlvs as Tlvs
-use Rattle.tlv_table.specs.Tlvs.{entryWritable}
+use Rattle.wire.specs.Bytes.{pick, be, Bytes, none}
+use Rattle.wire.specs.View.{viewed}
+use Rattle.wire.proofs.Bytes.{bytes-be, bytes-append}
+use Rattle.wire.proofs.Views.{bytes-viewed}
+use Rattle.wire.proofs.Tlv.{put-tlv-long, coded-length}
+use Rattle.writing.specs.Table.{joined}
+use Rattle.writing.proofs.Table.{Bodied}
+use Rattle.tlv_table.specs.Tlvs.{walkedTlvFits, entryWritable, oneTlv}
+use Rattle.tlv_table.specs.declared.TlvValue.the-variants.{Part, Number}
+use Rattle.tlv_table.proofs.Written.{entry-long}
 use Rattle.tlv_table.proofs.Walked.{WalkedTlvFits, walked-of, walked-from}
-use Rattle.tlv_table.proofs.Translated.{Translates}
-use Rattle.termination_message.specs.Grammar.{put, places}
-use Rattle.termination_message_writer.specs.Write.{partOf, valueWritable, tlvWritable, writer, valueEntry, entryOf}
-use Rattle.termination_message.specs.declared.TerminationTlvValue.{TerminationTlvValue}
+use Rattle.termination_message.specs.Grammar.{Tlv, string, reason, put, places}
+use Rattle.termination_message.specs.Shown.{textOf}
+use Rattle.termination_message_writer.specs.Write.{partOf, tlvWritable, writer, entryOf}
 use Rattle.termination_message.specs.declared.TerminationTlv.{TerminationTlv}
 use Rattle.termination_message.specs.declared.TerminationMessage.{TerminationMessage}
 use Rattle.termination_message.proofs.TerminationMessage as Message
@@ -26,46 +33,90 @@ use Rattle.termination_message.proofs.TerminationMessage.Laws as MessageLaws
 pub table-long : (m : TerminationMessage) (vs : List Val) → Is Message.the-row m vs → length (m .tlvs) ≡ places
 table-long m vs is = sym (length-map (m .tlvs) _) ∙ Struct.owed Message.the-type MessageLaws.the-laws m vs is .0 .1 .0 .1
 
+-- ---- the item of an entry
+pub part-text : (b : List ℕ) (t : TerminationTlv) → t .kind ≡ 0 → partOf b t ≡ string (t .«info_len») (viewed b (textOf t))
+part-text b t k = rw (eq-eqb (t .kind) 0 k)
+
+pub part-code : (b : List ℕ) (t : TerminationTlv) → (t .kind ≡ 0 → ⊥) → partOf b t ≡ reason (t .«info_len») (t .value)
+part-code b t k = rw (ne-eqb (t .kind) 0 k)
+
 -- ---- what `tlvWritable` asks
-abbrev pub Fine : ℕ → ℕ → ℕ → TerminationTlvValue → Type 0
-Fine room after size (TerminationTlvValue.String v) = WalkedTlvFits 0 size v room after
-Fine room after size (TerminationTlvValue.Reason r) = size ≡ 2
+pub data Fine (room after : ℕ) (t : TerminationTlv) : Type 0 where
+  a-text : t .kind ≡ 0 → WalkedTlvFits 0 (t .«info_len») (textOf t) room after → Fine room after t
+  a-code : t .kind ≡ 1 → t .«info_len» ≡ 2 → t .value ≤ 4 → Fine room after t
 
-pub fine-of : (room after : ℕ) (t : TerminationTlv) → tlvWritable room after t ≡ true → Fine room after (t .«info_len») (t .«info_value»)
+pub fine-of : (room after : ℕ) (t : TerminationTlv) → tlvWritable room after t ≡ true → Fine room after t
 unfolding tlvWritable
-fine-of room after t e = go (t .«info_len») (t .«info_value») e
+fine-of room after t e = go (eqb (t .kind) 0) refl (ltb 1 (t .kind)) refl (eqb (t .«info_len») 2) refl e
   where
-    go : (size : ℕ) (x : TerminationTlvValue) → valueWritable room after size x ≡ true → Fine room after size x
-    go size (TerminationTlvValue.String v) q = walked-of 0 size v room after q
-    go size (TerminationTlvValue.Reason r) q = eqb-true size 2 q
+    no : false ≡ true → Fine room after t
+    no q = let z : _≡_ {A = ℕ} 0 1 = cc in absurd (omega arith)
 
-pub fine-from : (room after : ℕ) (t : TerminationTlv) → Fine room after (t .«info_len») (t .«info_value») → tlvWritable room after t ≡ true
+    go : (a : Bool) → eqb (t .kind) 0 ≡ a → (d : Bool) → ltb 1 (t .kind) ≡ d → (f : Bool) → eqb (t .«info_len») 2 ≡ f
+        → pick a (walkedTlvFits 0 (t .«info_len») (textOf t) room after) (pick d false (pick f (leb (t .value) 4) false)) ≡ true → Fine room after t
+    go true ha d hd f hf q = a-text (eqb-true (t .kind) 0 ha) (walked-of _ _ _ _ _ q)
+    go false ha true hd f hf q = no q
+    go false ha false hd false hf q = no q
+    go false ha false hd true hf q =
+        let some = eqb-false (t .kind) 0 ha in
+        let few = ltb-false 1 (t .kind) hd in
+        a-code (omega arith) (eqb-true (t .«info_len») 2 hf) (leb-true (t .value) 4 q)
+
+pub fine-from : (room after : ℕ) (t : TerminationTlv) → Fine room after t → tlvWritable room after t ≡ true
 unfolding tlvWritable
-fine-from room after t f = go (t .«info_len») (t .«info_value») f
-  where
-    go : (size : ℕ) (x : TerminationTlvValue) → Fine room after size x → valueWritable room after size x ≡ true
-    go size (TerminationTlvValue.String v) q = walked-from 0 size v room after q
-    go size (TerminationTlvValue.Reason r) q = eq-eqb size 2 q
+fine-from room after t (a-text k f) = rw (eq-eqb (t .kind) 0 k) (walked-from _ _ _ _ _ f)
+fine-from room after t (a-code k s v) =
+    rw (ne-eqb (t .kind) 0 (λ z. omega arith), le-ltb 1 (t .kind) (omega arith), eq-eqb (t .«info_len») 2 s) (le-leb (t .value) 4 v)
 
--- ---- what is written for one TLV is that TLV
-ok-same : (room after size : ℕ) (x : TerminationTlvValue) → entryWritable 0 false room after (valueEntry size x) ≡ valueWritable room after size x
+-- ---- the entry of a String is judged as it is, and that of a Reason is writable where it is
+pub text-ok : (room after : ℕ) (t : TerminationTlv) → t .kind ≡ 0 → entryWritable 0 false room after (entryOf t) ≡ tlvWritable room after t
+unfolding tlvWritable entryWritable
+text-ok room after t k = rw (eq-eqb (t .kind) 0 k, le-leb 0 (t .«info_len») (omega arith))
+
+entry-ok : (room after : ℕ) (t : TerminationTlv) → Fine room after t → entryWritable 0 false room after (entryOf t) ≡ true
 unfolding entryWritable
-ok-same room after size (TerminationTlvValue.String v) = rw (le-leb 0 size (omega arith))
-ok-same room after size (TerminationTlvValue.Reason r) = refl
+entry-ok room after t (a-text k f) = text-ok room after t k ∙ fine-from room after t (a-text k f)
+entry-ok room after t (a-code k s v) = rw (ne-eqb (t .kind) 0 (λ z. omega arith)) (eq-eqb (t .«info_len») 2 s)
 
-size-same : (size : ℕ) (x : TerminationTlvValue) → valueEntry size x .size ≡ size
-size-same size (TerminationTlvValue.String v) = refl
-size-same size (TerminationTlvValue.Reason r) = refl
+-- ---- the bytes of one TLV alone, as the kit wants them
+two-bytes : (n : ℕ) → be 2 n ≡ be 2 (n % 65536)
+unfolding be
+two-bytes n =
+    let high : n / 256 % 256 ≡ n % 65536 / 256 % 256 = omega arith in
+    let low : n % 256 / 1 % 256 ≡ n % 65536 % 256 / 1 % 256 = omega arith in
+    λ i. high i ∷ low i ∷ []
 
-put-same : (b : List ℕ) (size : ℕ) (x : TerminationTlvValue) (r : List ℕ) → putTlv (Tlvs.partOf b (valueEntry size x)) r ≡ put (partOf b size x) r
-put-same b size (TerminationTlvValue.String v) r = refl
-put-same b size (TerminationTlvValue.Reason q) r = refl
+abbrev pub oneOf : List ℕ → TerminationTlv → List ℕ
+oneOf b t = oneTlv b (entryOf t)
 
-pub translates : Translates writer 0 false entryOf
-unfolding tlvWritable
-translates =
-    record {
-      ok-same = λ room n t. ok-same room n (t .«info_len») (t .«info_value»);
-      size-same = λ t. ap (λ (n : ℕ). 4 + n) (size-same (t .«info_len») (t .«info_value»));
-      put-same = λ b t r. put-same b (t .«info_len») (t .«info_value») r;
-    }
+put-one : (b : List ℕ) (t : TerminationTlv) (r : List ℕ) → put (partOf b t) r ≡ oneOf b t ++ r
+unfolding be
+put-one b t r = go (eqb (t .kind) 0)
+  where
+    go : (k : Bool) → put (pick k (string (t .«info_len») (viewed b (textOf t))) (reason (t .«info_len») (t .value))) r
+        ≡ oneTlv b (record { kind = pick k 0 1; size = t .«info_len»; value = pick k (Part (textOf t)) (Number (t .value % 65536)) }) ++ r
+    go true = refl
+    go false = ap (λ (l : List ℕ). be 2 1 ++ (be 2 (t .«info_len») ++ (l ++ r))) (two-bytes (t .value))
+
+pub bodied : Bodied writer oneOf
+bodied = record { put-is = put-one; length-is = λ b n t e. entry-long 0 false b n (entryOf t) (entry-ok (length b) n t (fine-of (length b) n t e)) }
+
+-- ---- all of them are bytes, and have a length
+put-bytes : (b : List ℕ) → Bytes b → (t : TerminationTlv) (r : List ℕ) → Bytes r → Bytes (put (partOf b t) r)
+put-bytes b p t r q = go (eqb (t .kind) 0)
+  where
+    go : (k : Bool) → Bytes (put (pick k (string (t .«info_len») (viewed b (textOf t))) (reason (t .«info_len») (t .value))) r)
+    go true = bytes-append (bytes-be 2 0) (bytes-append (bytes-be 2 (t .«info_len»)) (bytes-append (bytes-viewed b (textOf t) p) q))
+    go false = bytes-append (bytes-be 2 1) (bytes-append (bytes-be 2 (t .«info_len»)) (bytes-append (bytes-be 2 (t .value)) q))
+
+pub all-bytes : (b : List ℕ) → Bytes b → (l : List TerminationTlv) → Bytes (joined writer b l)
+all-bytes b p [] = none
+all-bytes b p (t ∷ l) = put-bytes b p t (joined writer b l) (all-bytes b p l)
+
+abbrev pub long : Tlv → ℕ
+long (string size value) = 4 + length value
+long (reason size code) = 6
+
+pub put-long : (t : Tlv) (r : List ℕ) → length (put t r) ≡ long t + length r
+put-long (string size value) r = put-tlv-long (record { kind = 0; size = size; value = value }) r
+put-long (reason size code) r = coded-length 1 size code r

@@ -1,10 +1,10 @@
 -- What the writer writes: the reading of a record, by the grammar's own parts; which records are writable; when two are the same.
-use Prim.Native.Nat.{ℕ, _+_, _<_}
+use Prim.Native.Nat.{ℕ, _+_, _%_, _<_}
 use mathlib.Core.Path.{_≡_}
 use mathlib.Core.Bool.{Bool, false}
-use mathlib.Core.List.{List, [], map}
+use mathlib.Core.List.{List, []}
 use lib.ListN.{take, getD}
-use lib.Dec.{ltb, eqb}
+use lib.Dec.{leb, ltb, eqb}
 use Rattle.wire.specs.Bytes.{pick}
 use Rattle.wire.specs.View.{viewed}
 use Rattle.wire.specs.Tlv.{short}
@@ -12,33 +12,35 @@ use Rattle.writing.specs.Table.{Writer, parts, allOk}
 use Rattle.tlv_table.specs.Tlvs.{walkedTlvFits}
 use Rattle.tlv_table.specs.declared.TlvValue.the-variants.{Part, Number}
 use Rattle.tlv_table.specs.declared.TlvEntry.{TlvEntry}
-use Rattle.tlv_table.specs.declared.TlvTable.{TlvTable}
 use Rattle.termination_message.specs.Grammar.{Tlv, string, reason, put, Reading, join, places}
-use Rattle.termination_message.specs.Shown.{codeOf, zeroTlv}
-use Rattle.termination_message.specs.declared.TerminationTlvValue.{TerminationTlvValue}
+use Rattle.termination_message.specs.Shown.{textOf, zeroTlv}
 use Rattle.termination_message.specs.declared.TerminationTlv.{TerminationTlv}
 use Rattle.termination_message.specs.declared.TerminationMessage.{TerminationMessage}
 
--- ---- the reading of a record whose views point into a buffer
-abbrev pub partOf : List ℕ → ℕ → TerminationTlvValue → Tlv
-partOf b size (TerminationTlvValue.String v) = string size (viewed b v)
-partOf b size (TerminationTlvValue.Reason r) = reason size (codeOf r)
+-- ---- the reading of a record whose views point into a buffer: type 0 is a String, every other a Reason
+abbrev pub partOf : List ℕ → TerminationTlv → Tlv
+partOf b t = pick (eqb (t .kind) 0) (string (t .«info_len») (viewed b (textOf t))) (reason (t .«info_len») (t .value))
 
--- ---- a TLV is writable, by the buffer's length and the number of TLVs after it: a String that can be written from its view and
--- is not a last one of length 0; a Reason of length 2
-abbrev pub valueWritable : ℕ → ℕ → ℕ → TerminationTlvValue → Bool
-valueWritable room after size (TerminationTlvValue.String v) = walkedTlvFits 0 size v room after
-valueWritable room after size (TerminationTlvValue.Reason r) = eqb size 2
+-- ---- a TLV is writable, by the buffer's length and the number of TLVs after it. Not writable, and refused with 12 (BadField):
+--
+--     a type above 1
+--     a String whose view is not all inside the buffer, or that is the last TLV and has length 0, which the reader would take for a tail
+--     a Reason whose length is not 2
+--     a Reason whose code is above 4
+--
+-- nor is a record of more than 32 TLVs
+abbrev pub reasonWritable : TerminationTlv → Bool
+reasonWritable t = pick (ltb 1 (t .kind)) false (pick (eqb (t .«info_len») 2) (leb (t .value) 4) false)
 
 unfoldable pub tlvWritable : ℕ → ℕ → TerminationTlv → Bool
-tlvWritable room after t = valueWritable room after (t .«info_len») (t .«info_value»)
+tlvWritable room after t = pick (eqb (t .kind) 0) (walkedTlvFits 0 (t .«info_len») (textOf t) room after) (reasonWritable t)
 
 abbrev pub writer : Writer
 writer =
     record {
       Entry = TerminationTlv;
       Item = Tlv;
-      part = λ b t. partOf b (t .«info_len») (t .«info_value»);
+      part = partOf;
       put = put;
       ok = tlvWritable;
       size = λ t. 4 + t .«info_len»;
@@ -57,27 +59,21 @@ bytesOf m b = join (readingOf m b)
 abbrev pub writable : TerminationMessage → ℕ → Bool
 writable m room = pick (ltb places (m .count)) false (allOk writer room (kept m))
 
--- ---- the table of TLVs that is written for a record
-abbrev pub valueEntry : ℕ → TerminationTlvValue → TlvEntry
-valueEntry size (TerminationTlvValue.String v) = record { kind = 0; size = size; value = Part v }
-valueEntry size (TerminationTlvValue.Reason r) = record { kind = 1; size = size; value = Number (codeOf r) }
-
+-- ---- the TLV that is written for an entry
 abbrev pub entryOf : TerminationTlv → TlvEntry
-entryOf t = valueEntry (t .«info_len») (t .«info_value»)
-
-abbrev pub tableOf : TerminationMessage → TlvTable
-tableOf m = record { tlvs = map entryOf (m .tlvs); count = m .count; least = 0; «empty_last» = false }
+entryOf t =
+    record {
+      kind = pick (eqb (t .kind) 0) 0 1;
+      size = t .«info_len»;
+      value = pick (eqb (t .kind) 0) (Part (textOf t)) (Number (t .value % 65536));
+    }
 
 -- ---- two records are the same: their numbers below the count, and the bytes that their views show, each in its own buffer
-abbrev pub SameValue : TerminationTlvValue → List ℕ → TerminationTlvValue → List ℕ → Type 0
-SameValue (TerminationTlvValue.String v) b (TerminationTlvValue.String w) s = viewed b v ≡ viewed s w
-SameValue (TerminationTlvValue.String v) b (TerminationTlvValue.Reason q) s = ⊥
-SameValue (TerminationTlvValue.Reason r) b (TerminationTlvValue.String w) s = ⊥
-SameValue (TerminationTlvValue.Reason r) b (TerminationTlvValue.Reason q) s = codeOf r ≡ codeOf q
-
 pub record SameTlv (t : TerminationTlv) (b : List ℕ) (u : TerminationTlv) (s : List ℕ) : Type 0 where
+  pub kind-same : t .kind ≡ u .kind
   pub len-same : t .«info_len» ≡ u .«info_len»
-  pub value-same : SameValue (t .«info_value») b (u .«info_value») s
+  pub text-same : t .kind ≡ 0 → viewed b (textOf t) ≡ viewed s (textOf u)
+  pub code-same : 0 < t .kind → t .value ≡ u .value
 
 pub record Same (m : TerminationMessage) (b : List ℕ) (n : TerminationMessage) (s : List ℕ) : Type 0 where
   pub count-same : m .count ≡ n .count

@@ -1,18 +1,17 @@
 // Writing the body of a BMP Termination message (RFC 7854, section 4.5).
 use termination_message::TerminationMessage;
-use termination_message::TerminationReason;
 use termination_message::TerminationTlv;
-use termination_message::TerminationTlvValue;
 use tlv_table::TlvEntry;
-use tlv_table::TlvTable;
 use tlv_table::TlvValue;
+use wire::View;
 use writing::WriteAnswer;
 ghost use mathlib.Core.Path.{_≡_};
 ghost use lib.ListN.{length};
 ghost use Rattle.writing.specs.Write.{writeAnswer, written};
-ghost use Rattle.termination_message.specs.Shown.{codeOf};
-ghost use Rattle.termination_message_writer.specs.Write.{entryOf, tableOf, bytesOf, writable};
+ghost use Rattle.termination_message_writer.specs.Write.{tlvWritable, entryOf, bytesOf, writable};
 
+// Writes the message, whose views point into the buffer, to the front of the output. The table is judged and measured in one pass
+// and written in a second, where it stands.
 pub fn write_termination_message(
     message: TerminationMessage,
     buffer: &[u8],
@@ -21,57 +20,74 @@ pub fn write_termination_message(
     ensures { λ r. ⌜ r ≡ writeAnswer (writable message (length (now (buffer .entry)))) (length (bytesOf message (now (buffer .entry)))) (length (now (out .entry))) ⌝ }
     ensures { λ _. ⌜ now (out .exit) ≡ written (writable message (length (now (buffer .entry)))) (bytesOf message (now (buffer .entry))) (now (out .entry)) ⌝ }
 {
-    tlv_table::write_tlvs(table_of(message), 0, true, buffer, out)
-}
-
-// The last TLV must not be empty: the reader would take it for a tail.
-fn table_of(message: TerminationMessage) -> TlvTable
-    ensures { λ r. ⌜ r ≡ tableOf message ⌝ }
-{
-    let first = message.tlvs[0];
-    let none = entry_of(first);
-    let mut tlvs = [none; 32];
+    let count = message.count;
+    if 32 < count {
+        return writing::write_answer(false, 0, out.len());
+    }
+    let mut length: usize = 0;
     let mut i: usize = 0;
-    while i < 32 {
+    while i < count {
         let tlv = message.tlvs[i];
-        tlvs[i] = entry_of(tlv);
+        let entry = entry_of(tlv);
+        if !tlv_writable(tlv, buffer.len(), count - i - 1) {
+            return writing::write_answer(false, 0, out.len());
+        }
+        length += tlv_table::tlv_length(entry);
         i += 1;
     }
-    TlvTable {
-        tlvs: tlvs,
-        count: message.count,
-        least: 0,
-        empty_last: false,
+    let answer = writing::write_answer(true, length, out.len());
+    let WriteAnswer::Written(_) = answer else {
+        return answer;
+    };
+    let mut at: usize = 0;
+    let mut k: usize = 0;
+    while k < count {
+        let tlv = message.tlvs[k];
+        let entry = entry_of(tlv);
+        tlv_table::put_entry(out, at, entry, buffer);
+        at += tlv_table::tlv_length(entry);
+        k += 1;
     }
+    answer
 }
 
+// The last TLV must not be an empty String: the reader would take it for a tail.
+fn tlv_writable(tlv: TerminationTlv, room: usize, after: usize) -> bool
+    ensures { λ r. ⌜ r ≡ tlvWritable room after tlv ⌝ }
+{
+    let kind = tlv.kind;
+    if kind == 0 {
+        return tlv_table::entry_writable(entry_of(tlv), 0, false, room, after);
+    }
+    if 1 < kind {
+        return false;
+    }
+    if tlv.info_len != 2 {
+        return false;
+    }
+    tlv.value <= 4
+}
+
+// A Reason's code is written in two bytes; only codes that fit them are writable.
 fn entry_of(tlv: TerminationTlv) -> TlvEntry
     ensures { λ r. ⌜ r ≡ entryOf tlv ⌝ }
 {
+    let value = tlv.value;
     let size = tlv.info_len;
-    let value = tlv.info_value;
-    match value {
-        TerminationTlvValue::String(view) => TlvEntry {
+    if tlv.kind == 0 {
+        let view = View {
+            place: value as usize,
+            length: size as usize,
+        };
+        return TlvEntry {
             kind: 0,
             size: size,
             value: TlvValue::Part(view),
-        },
-        TerminationTlvValue::Reason(reason) => TlvEntry {
-            kind: 1,
-            size: size,
-            value: TlvValue::Number(code_of(reason)),
-        },
+        };
     }
-}
-
-fn code_of(reason: TerminationReason) -> u16
-    ensures { λ r. ⌜ r ≡ codeOf reason ⌝ }
-{
-    match reason {
-        TerminationReason::AdministrativelyClosed => 0,
-        TerminationReason::UnspecifiedReason => 1,
-        TerminationReason::OutOfResources => 2,
-        TerminationReason::RedundantConnection => 3,
-        TerminationReason::PermanentlyAdministrativelyClosed => 4,
+    TlvEntry {
+        kind: 1,
+        size: size,
+        value: TlvValue::Number((value % 65536) as u16),
     }
 }

@@ -3,7 +3,8 @@ use wire::View;
 use writing::WriteAnswer;
 ghost use mathlib.Core.Path.{_≡_};
 ghost use mathlib.Core.Bool.{true, _&&_};
-ghost use Prim.Native.Nat.{_+_, _≤_};
+ghost use Prim.Native.Nat.{_+_, _-_, _≤_};
+ghost use lib.Dec.{leb};
 ghost use lib.ListN.{length};
 ghost use lib.Seq.{sets};
 ghost use Rattle.writing.specs.Write.{putAt, writeAnswer};
@@ -78,7 +79,15 @@ fn is_writable(table: TlvTable, ok: bool, room: usize) -> bool
     true
 }
 
-fn entry_writable(tlv: TlvEntry, least: u16, empty_last: bool, room: usize, after: usize) -> bool
+// Whether an entry can be written, for a table whose parts have at least so many bytes, by whether its last TLV may be empty, the
+// length of the buffer and the number of entries after it.
+pub fn entry_writable(
+    tlv: TlvEntry,
+    least: u16,
+    empty_last: bool,
+    room: usize,
+    after: usize,
+) -> bool
     ensures { λ r. ⌜ r ≡ entryWritable least «empty_last» room after tlv ⌝ }
 {
     let size = tlv.size;
@@ -132,7 +141,8 @@ fn written_length(table: TlvTable) -> usize
     length
 }
 
-fn tlv_length(tlv: TlvEntry) -> usize
+// How many bytes an entry takes.
+pub fn tlv_length(tlv: TlvEntry) -> usize
     ensures { λ r. ⌜ (r ≡ 4 + tlv .size) × (r ≤ 65539) ⌝ }
 {
     let size = tlv.size;
@@ -166,7 +176,42 @@ fn put_tlvs(table: TlvTable, front: usize, buffer: &[u8], out: &mut [u8])
     }
 }
 
-fn put_entry(out: &mut [u8], at: usize, tlv: TlvEntry, buffer: &[u8])
+// Puts the bytes of an entry, whose view points into the buffer, at a place of the output: all of them or, where they do not fit, none.
+pub fn put_entry(out: &mut [u8], at: usize, tlv: TlvEntry, buffer: &[u8])
+    ensures { λ _. ⌜ now (out .exit) ≡ putAt (now (out .entry)) at (oneTlv (now (buffer .entry)) tlv) ⌝ }
+{
+    let value = tlv.value;
+    if fits(out.len(), at, value_length(value, buffer)) {
+        put_parts(out, at, tlv, buffer);
+    }
+}
+
+// Whether type, length and a value of so many bytes fit between a place and the output's end.
+fn fits(room: usize, at: usize, count: usize) -> bool
+    ensures { λ r. ⌜ r ≡ leb (4 + count) (room - at) ⌝ }
+{
+    if room < at {
+        return false;
+    }
+    if room - at < 4 {
+        return false;
+    }
+    count <= room - at - 4
+}
+
+fn value_length(value: TlvValue, buffer: &[u8]) -> usize
+    ensures { λ r. ⌜ r ≡ length (valueBytes (now (buffer .entry)) value) ⌝ }
+{
+    match value {
+        TlvValue::Part(view) => {
+            let part = view.part(buffer);
+            part.len()
+        }
+        TlvValue::Number(_) => 2,
+    }
+}
+
+fn put_parts(out: &mut [u8], at: usize, tlv: TlvEntry, buffer: &[u8])
     requires { ⌜ at + length (oneTlv (now buffer) tlv) ≤ length (now out) ⌝ }
     ensures { λ _. ⌜ now (out .exit) ≡ putAt (now (out .entry)) at (oneTlv (now (buffer .entry)) tlv) ⌝ }
 {

@@ -26,8 +26,8 @@ abbrev μ-loop : tie.MeasureT-loop
 
 -- after a whole TLV
 onward-at : (c : tie.After-known-told2 Inv-loop μ-loop)
-    → TurnTo kit takes (c .before .before .before .before .loop .count) (c .before .before .before .before .loop .at) (c .before .before .before .before .loop .tlvs) (now (c .before .before .before .before .before .before .before .before .args .s)) (c .before .tlv .given .0 .0) (c .before .tlv .given .0 .1 .0 .at)
-onward-at c = onward _ _ _ _ _ _ (c .before .before .before .before .loop .inv .0 .0) (c .before .before .before .before .loop .inv .0 .1) (sym (c .before .before .before .step-at .ensures) ∙ c .before .tlv .given .1)
+    → TurnTo kit takes (c .before .before .before .before .loop .count) (c .before .before .before .before .loop .at) (c .before .before .before .before .loop .tlvs) (now (c .before .before .before .before .before .before .before .before .args .s)) (record { kind = c .before .kind .given .0 .0; «info_len» = c .before .kind .given .0 .1 .0; place = c .before .kind .given .0 .1 .1 .0 }) (c .before .kind .given .0 .1 .1 .1 .0 .at)
+onward-at c = onward _ _ _ _ _ _ _ _ (c .before .before .before .before .loop .inv .0 .0) (c .before .before .before .before .loop .inv .0 .1) (sym (c .before .before .before .step-at .ensures) ∙ c .before .kind .given .1)
 
 refused-requires : tie.Need-refused-requires Inv-loop μ-loop
 refused-requires c κs = search needs
@@ -48,8 +48,8 @@ step-at-requires c κs = search needs
 enum-known-place : tie.Need-enum-known-place Inv-loop μ-loop
 enum-known-place c = search needs
 
-enum-known-tlv : tie.Need-enum-known-tlv Inv-loop μ-loop
-enum-known-tlv c = search needs
+enum-known-kind : tie.Need-enum-known-kind Inv-loop μ-loop
+enum-known-kind c = search needs
 
 refused-requires-2 : tie.Need-refused-requires-2 Inv-loop μ-loop
 refused-requires-2 c κs = search needs
@@ -91,7 +91,7 @@ parse-initiation-message-spec =
     loop-holds
     step-at-requires
     enum-known-place
-    enum-known-tlv
+    enum-known-kind
     refused-requires-2
     returns-2
     mul-tlvs

@@ -1,40 +1,18 @@
 use borrow.Author.Needs.{needs}
 use native.Mathlib.Omega.{arith}
 use denote.Ref.{now}
-use mathlib.Core.Path.{_≡_, sym, ap}
-use Prim.Native.Nat.{_+_}
-use lib.ListN.{drop}
-use native.Mathlib.Nat.{add-zero}
+use mathlib.Core.Path.{sym}
+use Rattle.tlv_head.proofs.Heads.{Head, was-found, was-short}
 use Rattle.initiation_message.proofs.Steps.{brief-at, beyond-at, whole-at}
-use Rattle.wire.specs.Bytes.{numAt}
-use Rattle.cursor.specs.Read.{fromU16}
-use Rattle.cursor.proofs.Reading.{Was, was-got, was-cut, was-in, tells16}
 use Rattle.initiation_message.proofs.step_at.Statement.{statement}
 use Rattle.initiation_message.proofs.step_at.Tie as tie
 
-was-kind : (c : tie.After-known-told) → Was 2 (now (c .before .before .before .before .before .before .before .args .s)) (c .before .before .before .before .before .before .before .args .at) (c .before .kind .given .0 .0) (c .before .kind .given .0 .1 .0)
-was-kind c = was-got 2 (now (c .before .before .before .before .before .before .before .args .s)) (c .before .before .before .before .before .before .before .args .at) (ap fromU16 (c .before .kind .given .1)) (tells16 _ (c .before .before .before .read-u16 .ensures))
+-- behind a head
+head-at : (c : tie.After-known-told) → Head 1 (now (c .before .before .before .before .before .args .s)) (c .before .before .before .before .before .args .at) (c .before .kind .given .0 .0) (c .before .kind .given .0 .1 .0) (c .before .kind .given .0 .1 .1 .0)
+head-at c = was-found 1 (now (c .before .before .before .before .before .args .s)) (c .before .before .before .before .before .args .at) (c .before .kind .given .1) (c .before .before .before .read-head .ensures)
 
-was-size : (c : tie.After-known-told2) → Was 2 (now (c .before .before .before .before .before .before .before .before .before .before .before .args .s)) (c .before .before .before .before .before .kind .given .0 .1 .0 .at) (c .before .size .given .0 .0) (c .before .size .given .0 .1 .0)
-was-size c = was-got 2 (now (c .before .before .before .before .before .before .before .before .before .before .before .args .s)) (c .before .before .before .before .before .kind .given .0 .1 .0 .at) (ap fromU16 (c .before .size .given .1)) (tells16 _ (c .before .before .before .read-u162 .ensures))
-
-place-is : (c : tie.After-known-told2) → c .before .size .given .0 .1 .0 .at ≡ c .before .before .before .before .before .before .before .before .before .before .before .args .at + 4
-place-is c = let a = was-kind (c .before .before .before .before) in let b = was-size c in omega arith
-
-size-is : (c : tie.After-known-told2) → numAt 2 (drop (c .before .before .before .before .before .before .before .before .before .before .before .args .at) (now (c .before .before .before .before .before .before .before .before .before .before .before .args .s))) 2 ≡ c .before .size .given .0 .0
-size-is c = was-in (c .before .before .before .before .before .before .before .before .before .before .before .args .at) 2 (was-kind (c .before .before .before .before) .next) (was-size c)
-
-kind-is : (c : tie.After-known-told) → numAt 2 (drop (c .before .before .before .before .before .before .before .args .at) (now (c .before .before .before .before .before .before .before .args .s))) 0 ≡ c .before .kind .given .0 .0
-kind-is c = was-in (c .before .before .before .before .before .before .before .args .at) 0 (sym (add-zero (c .before .before .before .before .before .before .before .args .at))) (was-kind c)
-
-left-requires : tie.Need-left-requires
-left-requires c κs = search needs
-
-returns : tie.Need-returns
-returns c = sym (brief-at (now (c .before .before .before .args .s)) (c .before .before .before .args .at) (omega arith))
-
-read-u16-requires : tie.Need-read-u16-requires
-read-u16-requires c κs = search needs
+read-head-requires : tie.Need-read-head-requires
+read-head-requires c κs = search needs
 
 enum-known-kind : tie.Need-enum-known-kind
 enum-known-kind c = search needs
@@ -42,66 +20,44 @@ enum-known-kind c = search needs
 enum-told : tie.Need-enum-told
 enum-told c = search needs
 
+returns : tie.Need-returns
+returns c =
+    let h = was-short 1 (now (c .before .before .before .before .args .s)) (c .before .before .before .before .args .at) (c .enum-told .given .1) (c .before .before .read-head .ensures) in
+    sym (brief-at (now (c .before .before .before .before .args .s)) (c .before .before .before .before .args .at) (omega arith))
+
+left-requires : tie.Need-left-requires
+left-requires c κs = search needs
+
+cast-if1 : tie.Need-cast-if1
+cast-if1 c = search needs
+
 returns-2 : tie.Need-returns-2
-returns-2 c = let h = was-cut 2 (now (c .before .before .before .before .before .before .args .s)) (c .before .before .before .before .before .before .args .at) (ap fromU16 (c .enum-told .given .1)) (tells16 _ (c .before .before .read-u16 .ensures)) in absurd (omega arith)
+returns-2 c = let h = head-at (c .before .before) in sym (beyond-at _ _ (omega arith) _ (h .size-is) _ (h .next) (omega arith))
 
-read-u16-requires-2 : tie.Need-read-u16-requires-2
-read-u16-requires-2 c κs = search needs
+cast-t12 : tie.Need-cast-t12
+cast-t12 c = let h = head-at (c .before .before) in omega (arith, c .before .before .before .before .before .before .before .pre)
 
-enum-known-size : tie.Need-enum-known-size
-enum-known-size c = search needs
-
-enum-told-2 : tie.Need-enum-told-2
-enum-told-2 c = search needs
-
-returns-3 : tie.Need-returns-3
-returns-3 c =
-    let w = was-kind (c .before .before .before) in
-    let h = was-cut 2 (now (c .before .before .before .before .before .before .before .before .before .before .args .s)) (c .before .before .before .before .kind .given .0 .1 .0 .at) (ap fromU16 (c .enum-told2 .given .1)) (tells16 _ (c .before .before .read-u162 .ensures)) in absurd (omega arith)
-
-left-requires-2 : tie.Need-left-requires-2
-left-requires-2 c κs = search needs
-
-cast-if2 : tie.Need-cast-if2
-cast-if2 c = search needs
-
-returns-4 : tie.Need-returns-4
-returns-4 c = sym (beyond-at _ _ (omega arith) _ (size-is (c .before .before)) _ (place-is (c .before .before)) (omega arith))
-
-type-of-requires : tie.Need-type-of-requires
-type-of-requires c κs = search needs
-
-cast-t10 : tie.Need-cast-t10
-cast-t10 c = search needs
-
-cast-t14 : tie.Need-cast-t14
-cast-t14 c = search needs
+cast-t9 : tie.Need-cast-t9
+cast-t9 c = search needs
 
 add-t10 : tie.Need-add-t10
 add-t10 c = search needs
 
-returns-5 : tie.Need-returns-5
-returns-5 c = rw (c .type-of .ensures) (sym (whole-at _ _ (omega arith) _ (size-is (c .before .before .before)) _ (place-is (c .before .before .before)) _ (kind-is (c .before .before .before .before .before .before .before)) (omega arith)))
+returns-3 : tie.Need-returns-3
+returns-3 c = let h = head-at (c .before .before) in sym (whole-at _ _ (omega arith) _ (h .size-is) _ (h .next) _ (h .kind-is) (omega arith))
 
 pub step-at-spec : {M : Type 1} → statement M
 step-at-spec =
     tie.close
     (tie.spec
-    left-requires
-    returns
-    read-u16-requires
+    read-head-requires
     enum-known-kind
     enum-told
+    returns
+    left-requires
+    cast-if1
     returns-2
-    read-u16-requires-2
-    enum-known-size
-    enum-told-2
-    returns-3
-    left-requires-2
-    cast-if2
-    returns-4
-    type-of-requires
-    cast-t10
-    cast-t14
+    cast-t12
+    cast-t9
     add-t10
-    returns-5)
+    returns-3)

@@ -1,9 +1,8 @@
 use borrow.Author.Needs.{needs}
 use native.Mathlib.Omega.{arith}
 use denote.Ref.{now}
-use mathlib.Core.Path.{sym, ap₂, _∙_}
-use Prim.Native.Nat.{ℕ, _+_, _*_, _^_}
-use Rattle.wire.proofs.Bytes.{number-none, number-split}
+use mathlib.Core.Path.{sym, _∙_}
+use Rattle.wire.proofs.Bytes.{number-is, number-none}
 use Rattle.numbers.proofs.u64_at.Statement.{statement}
 use Rattle.numbers.proofs.u64_at.Tie as tie
 
@@ -13,41 +12,11 @@ left-requires c κs = search needs
 returns : tie.Need-returns
 returns c = sym (number-none 8 (now (c .before .before .before .args .s)) (c .before .before .before .args .at) (omega arith))
 
-u32-at-requires : tie.Need-u32-at-requires
-u32-at-requires c κs = search needs
-
-cast-result : tie.Need-cast-result
-cast-result c = search needs
-
-mul-result : tie.Need-mul-result
-mul-result c = search needs
-
-add-u32-at : tie.Need-add-u32-at
-add-u32-at c = search needs
-
-u32-at-requires-2 : tie.Need-u32-at-requires-2
-u32-at-requires-2 c κs = search needs
-
-cast-result-2 : tie.Need-cast-result-2
-cast-result-2 c = search needs
-
-add-result : tie.Need-add-result
-add-result c = search needs
+eight-requires : tie.Need-eight-requires
+eight-requires c κs = search needs
 
 returns-2 : tie.Need-returns-2
-returns-2 c = sym (number-split 4 4 (now (c .before .before .before .before .before .args .s)) (c .before .before .before .before .before .args .at) (omega arith) ∙ ap₂ (λ (m n : ℕ). m * 256 ^ 4 + n) (sym (c .before .u32-at .ensures)) (sym (c .u32-at2 .ensures)))
+returns-2 c = c .eight .ensures ∙ sym (number-is 8 (now (c .before .before .before .before .args .s)) (c .before .before .before .before .args .at) (omega arith))
 
 pub u64-at-spec : {M : Type 1} → statement M
-u64-at-spec =
-    tie.close
-    (tie.spec
-    left-requires
-    returns
-    u32-at-requires
-    cast-result
-    mul-result
-    add-u32-at
-    u32-at-requires-2
-    cast-result-2
-    add-result
-    returns-2)
+u64-at-spec = tie.close (tie.spec left-requires returns eight-requires returns-2)

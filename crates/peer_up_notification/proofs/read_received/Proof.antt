@@ -28,7 +28,7 @@ front-of-requires c κs = search needs
 read-tlvs-requires : tie.Need-read-tlvs-requires
 read-tlvs-requires c κs =
     let w = was-found (now (c .before .before .before .before .before .before .args .s)) (c .before .before .before .before .before .before .args .start .at) (c .before .before .received-open .given .0 .0) (c .before .before .received-open .given .0 .1 .0) (sym (c .before .before .before .before .open-at .ensures) ∙ c .before .before .received-open .given .1) in
-    omega (arith, w .has-header, w .there, w .next-is)
+    (omega (arith, w .has-header, w .there, w .next-is), c .before .before .before .before .before .before .pre)
 
 returns : tie.Need-returns
 returns c = c .refused .ensures ∙ ap (withReceived (c .before .before .before .before .before .before .args .afi) (c .before .before .before .before .before .before .args .peer-type) (now (c .before .before .before .before .before .before .args .s)) (c .before .before .before .before .before .before .args .sent-open)) (sym (c .before .before .refusal .given .1) ∙ c .before .before .before .before .open-at .ensures)

@@ -3,15 +3,15 @@ use Rattle.peer_up_notification.specs.Shown.{zeroTable}
 use Rattle.peer_up_notification.proofs.refused.Statement.{statement}
 use Rattle.peer_up_notification.proofs.refused.Tie as tie
 
-zero-tlv-requires : tie.Need-zero-tlv-requires
-zero-tlv-requires c κs = search needs
+tlv-of-requires : tie.Need-tlv-of-requires
+tlv-of-requires c κs = search needs
 
 unspecified-requires : tie.Need-unspecified-requires
 unspecified-requires c κs = search needs
 
 returns : tie.Need-returns
 unfolding zeroTable
-returns c = rw (c .before .zero-tlv .ensures, c .unspecified .ensures)
+returns c = rw (c .before .tlv-of .ensures, c .unspecified .ensures)
 
 pub refused-spec : {M : Type 1} → statement M
-refused-spec = tie.close (tie.spec zero-tlv-requires unspecified-requires returns)
+refused-spec = tie.close (tie.spec tlv-of-requires unspecified-requires returns)

@@ -26,8 +26,8 @@ abbrev μ-loop : tie.MeasureT-loop
 
 -- after a whole TLV
 onward-at : (c : tie.After-known-told3 Inv-loop μ-loop)
-    → TurnTo kit takes (c .before .before .before .before .loop .count) (c .before .before .before .before .loop .at) (c .before .before .before .before .loop .tlvs) (now (c .before .before .before .before .before .before .before .before .args .s)) (c .before .tlv .given .0 .0) (c .before .tlv .given .0 .1 .0 .at)
-onward-at c = onward _ _ _ _ _ _ (c .before .before .before .before .loop .inv .0 .0) (c .before .before .before .before .loop .inv .0 .1) (sym (c .before .before .before .step-at .ensures) ∙ c .before .tlv .given .1)
+    → TurnTo kit takes (c .before .before .before .before .loop .count) (c .before .before .before .before .loop .at) (c .before .before .before .before .loop .tlvs) (now (c .before .before .before .before .before .before .before .before .args .s)) (record { kind = c .before .kind .given .0 .0; «info_len» = c .before .kind .given .0 .1 .0; number = c .before .kind .given .0 .1 .1 .0 }) (c .before .kind .given .0 .1 .1 .1 .0 .at)
+onward-at c = onward _ _ _ _ _ _ _ _ (c .before .before .before .before .loop .inv .0 .0) (c .before .before .before .before .loop .inv .0 .1) (sym (c .before .before .before .step-at .ensures) ∙ c .before .kind .given .1)
 
 refusal-at-requires : tie.Need-refusal-at-requires Inv-loop μ-loop
 refusal-at-requires c κs = search needs
@@ -60,8 +60,8 @@ refused-requires-2 c κs = search needs
 returns-2 : tie.Need-returns-2 Inv-loop μ-loop
 returns-2 c = c .refused2 .ensures ∙ sym (c .before .before .before .before .before .loop .inv .1 .1 ∙ refuses _ _ _ _ _ (c .before .before .before .before .before .loop .inv .0 .0) (sym (c .before .before .before .before .step-at .ensures) ∙ c .before .before .refusal .given .1))
 
-enum-known-tlv : tie.Need-enum-known-tlv Inv-loop μ-loop
-enum-known-tlv c = search needs
+enum-known-kind : tie.Need-enum-known-kind Inv-loop μ-loop
+enum-known-kind c = search needs
 
 refusal-at-requires-2 : tie.Need-refusal-at-requires-2 Inv-loop μ-loop
 refusal-at-requires-2 c κs = search needs
@@ -110,7 +110,7 @@ parse-route-mirroring-spec =
     enum-known-refusal
     refused-requires-2
     returns-2
-    enum-known-tlv
+    enum-known-kind
     refusal-at-requires-2
     refused-requires-3
     returns-3

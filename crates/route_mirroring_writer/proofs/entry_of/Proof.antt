@@ -6,23 +6,26 @@ use Rattle.route_mirroring_writer.specs.Write.{valueEntry}
 use Rattle.route_mirroring_writer.proofs.entry_of.Statement.{statement}
 use Rattle.route_mirroring_writer.proofs.entry_of.Tie as tie
 
-enum-known-value : tie.Need-enum-known-value
-enum-known-value c = search needs
+value-requires : tie.Need-value-requires
+value-requires c κs = search needs
 
-enum-known-value-2 : tie.Need-enum-known-value-2
-enum-known-value-2 c = search needs
+enum-known-view : tie.Need-enum-known-view
+enum-known-view c = search needs
 
-code-of-requires : tie.Need-code-of-requires
-code-of-requires c κs = search needs
+enum-known-info : tie.Need-enum-known-info
+enum-known-info c = search needs
+
+code-requires : tie.Need-code-requires
+code-requires c κs = search needs
 
 returns : tie.Need-returns
-returns c = sym (ap (valueEntry (c .before .before .before .args .tlv .«info_len»)) (c .before .value .given .1))
+returns c = ap (valueEntry (c .before .before .before .before .args .tlv .«info_len»)) (sym (c .before .view .given .1) ∙ c .before .before .before .value .ensures)
 
 returns-2 : tie.Need-returns-2
 returns-2 c =
-    ap (λ (n : ℕ). record { kind = 1; size = c .before .before .before .before .args .tlv .«info_len»; value = Number n }) (c .code-of .ensures)
-    ∙ sym (ap (valueEntry (c .before .before .before .before .args .tlv .«info_len»)) (c .before .before .value2 .given .1))
+    ap (λ (n : ℕ). record { kind = 1; size = c .before .before .before .before .before .args .tlv .«info_len»; value = Number n }) (c .code .ensures)
+    ∙ ap (valueEntry (c .before .before .before .before .before .args .tlv .«info_len»)) (sym (c .before .before .info .given .1) ∙ c .before .before .before .before .value .ensures)
 
 pub entry-of-spec : {M : Type 1} → statement M
 entry-of-spec =
-    tie.close (tie.spec enum-known-value enum-known-value-2 code-of-requires returns returns-2)
+    tie.close (tie.spec value-requires enum-known-view enum-known-info code-requires returns returns-2)

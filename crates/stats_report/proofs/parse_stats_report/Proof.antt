@@ -1,15 +1,14 @@
-use borrow.Author.Needs.{needs}
 use denote.Ref.{now}
 use borrow.Author.Tests.{lt-ltb}
 use mathlib.Core.Path.{sym, ap, _∙_}
 use lib.ListN.{length}
-use Rattle.stats_report.specs.Shown.{refusedAnswer}
-use Rattle.stats_report.proofs.Laws.{no-count, counted}
+use Rattle.wire.specs.Number as Number
 use Rattle.cursor.specs.Read.{fromU32}
-use Rattle.cursor.proofs.Reading.{was-got, was-cut, tells32}
+use Rattle.cursor.proofs.Reading.{was-got, tells32}
+use Rattle.stats_report.proofs.Laws.{no-count, counted}
+use borrow.Author.Needs.{needs}
 use Rattle.stats_report.proofs.parse_stats_report.Statement.{statement}
 use Rattle.stats_report.proofs.parse_stats_report.Tie as tie
-use Rattle.wire.specs.Number as Number
 
 refused-at-requires : tie.Need-refused-at-requires
 refused-at-requires c κs = search needs
@@ -20,25 +19,20 @@ returns c = rw (lt-ltb Number.limit (length (now (c .before .before .before .arg
 read-u32-requires : tie.Need-read-u32-requires
 read-u32-requires c κs = search needs
 
-enum-known-stats-count : tie.Need-enum-known-stats-count
-enum-known-stats-count c = search needs
-
-enum-told : tie.Need-enum-told
-enum-told c = search needs
-
-cut-at-requires : tie.Need-cut-at-requires
-cut-at-requires c κs = search needs
+enum-known-refusal : tie.Need-enum-known-refusal
+enum-known-refusal c = search needs
 
 refused-requires : tie.Need-refused-requires
 refused-requires c κs = search needs
 
-returns-2 : tie.Need-returns-2
-returns-2 c =
-    let h = was-cut 4 (now (c .before .before .before .before .before .before .before .args .s)) 0 (ap fromU32 (c .before .before .enum-told .given .1)) (tells32 _ (c .before .before .before .before .read-u32 .ensures)) in
-    c .refused .ensures ∙ ap refusedAnswer (c .before .cut-at .ensures) ∙ sym (no-count (now (c .before .before .before .before .before .before .before .args .s)) (c .before .before .before .before .before .if1 .left) h)
+enum-known-stats-count : tie.Need-enum-known-stats-count
+enum-known-stats-count c = search needs
 
 read-counters-requires : tie.Need-read-counters-requires
 read-counters-requires c κs = search needs
+
+returns-2 : tie.Need-returns-2
+returns-2 c = c .refused .ensures ∙ sym (no-count (now (c .before .before .before .before .before .before .before .args .s)) (c .before .before .before .before .before .if1 .left) _ _ (ap fromU32 (c .before .before .refusal .given .1)) (tells32 _ (c .before .before .before .before .read-u32 .ensures)))
 
 returns-3 : tie.Need-returns-3
 returns-3 c =
@@ -52,10 +46,9 @@ parse-stats-report-spec =
     refused-at-requires
     returns
     read-u32-requires
-    enum-known-stats-count
-    enum-told
-    cut-at-requires
+    enum-known-refusal
     refused-requires
-    returns-2
+    enum-known-stats-count
     read-counters-requires
+    returns-2
     returns-3)

@@ -22,8 +22,8 @@ abbrev μ-loop : tie.MeasureT-loop
 
 -- after a whole record
 onward-at : (c : tie.After-known-told2 Inv-loop μ-loop)
-    → Onward (c .before .before .before .before .before .before .before .before .args .stats-count) (c .before .before .before .before .before .loop .count) (c .before .before .before .before .before .loop .at) (c .before .before .before .before .before .loop .counters) (now (c .before .before .before .before .before .before .before .before .args .s)) (c .before .before .before .before .if1 .left) (c .before .counter .given .0 .0) (c .before .counter .given .0 .1 .0)
-onward-at c = onward _ _ _ _ _ (c .before .before .before .before .if1 .left) _ _ (sym (c .before .before .before .step-at .ensures) ∙ c .before .counter .given .1)
+    → Onward (c .before .before .before .before .before .before .before .before .args .stats-count) (c .before .before .before .before .before .loop .count) (c .before .before .before .before .before .loop .at) (c .before .before .before .before .before .loop .counters) (now (c .before .before .before .before .before .before .before .before .args .s)) (c .before .before .before .before .if1 .left) (record { kind = c .before .kind .given .0 .0; «stat_len» = c .before .kind .given .0 .1 .0; afi = c .before .kind .given .0 .1 .1 .0; safi = c .before .kind .given .0 .1 .1 .1 .0; value = c .before .kind .given .0 .1 .1 .1 .1 .0 }) (c .before .kind .given .0 .1 .1 .1 .1 .1 .0)
+onward-at c = onward _ _ _ _ _ (c .before .before .before .before .if1 .left) _ _ _ _ _ _ (sym (c .before .before .before .step-at .ensures) ∙ c .before .kind .given .1)
 
 zero-counter-requires : tie.Need-zero-counter-requires Inv-loop μ-loop
 zero-counter-requires c κs = search needs
@@ -43,8 +43,8 @@ refused-requires c κs = search needs
 returns : tie.Need-returns Inv-loop μ-loop
 returns c = c .refused .ensures ∙ sym (c .before .before .before .before .before .before .loop .inv .1 ∙ refuses _ _ _ _ _ (c .before .before .before .before .before .if1 .left) _ (sym (c .before .before .before .before .step-at .ensures) ∙ c .before .before .refusal .given .1))
 
-enum-known-counter : tie.Need-enum-known-counter Inv-loop μ-loop
-enum-known-counter c = search needs
+enum-known-kind : tie.Need-enum-known-kind Inv-loop μ-loop
+enum-known-kind c = search needs
 
 refused-at-requires : tie.Need-refused-at-requires Inv-loop μ-loop
 refused-at-requires c κs = search needs
@@ -84,7 +84,7 @@ read-counters-spec =
     enum-known-refusal
     refused-requires
     returns
-    enum-known-counter
+    enum-known-kind
     refused-at-requires
     returns-2
     mul-counters

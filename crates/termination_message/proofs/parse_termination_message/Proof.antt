@@ -26,17 +26,17 @@ abbrev μ-loop : tie.MeasureT-loop
 
 -- after a whole TLV
 onward-at : (c : tie.After-known-told3 Inv-loop μ-loop)
-    → TurnTo kit takes (c .before .before .before .before .loop .count) (c .before .before .before .before .loop .at) (c .before .before .before .before .loop .tlvs) (now (c .before .before .before .before .before .before .before .before .args .s)) (c .before .tlv .given .0 .0) (c .before .tlv .given .0 .1 .0 .at)
-onward-at c = onward _ _ _ _ (c .before .before .before .before .loop .inv .0 .0) (c .before .before .before .before .loop .inv .0 .1) _ _ (sym (c .before .before .before .step-at .ensures) ∙ c .before .tlv .given .1)
+    → TurnTo kit takes (c .before .before .before .before .loop .count) (c .before .before .before .before .loop .at) (c .before .before .before .before .loop .tlvs) (now (c .before .before .before .before .before .before .before .before .args .s)) (record { kind = c .before .kind .given .0 .0; «info_len» = c .before .kind .given .0 .1 .0; value = c .before .kind .given .0 .1 .1 .0 }) (c .before .kind .given .0 .1 .1 .1 .0 .at)
+onward-at c = onward _ _ _ _ (c .before .before .before .before .loop .inv .0 .0) (c .before .before .before .before .loop .inv .0 .1) _ _ _ _ (sym (c .before .before .before .step-at .ensures) ∙ c .before .kind .given .1)
 
-fault-requires : tie.Need-fault-requires Inv-loop μ-loop
-fault-requires c κs = search needs
+refusal-at-requires : tie.Need-refusal-at-requires Inv-loop μ-loop
+refusal-at-requires c κs = search needs
 
 refused-requires : tie.Need-refused-requires Inv-loop μ-loop
 refused-requires c κs = search needs
 
 returns : tie.Need-returns Inv-loop μ-loop
-returns c = rw (lt-ltb Number.limit (length (now (c .before .before .before .before .args .s))) (c .before .before .if1 .taken)) (c .refused .ensures ∙ ap refusedAnswer (c .before .fault .ensures))
+returns c = rw (lt-ltb Number.limit (length (now (c .before .before .before .before .args .s))) (c .before .before .if1 .taken)) (c .refused .ensures ∙ ap refusedAnswer (c .before .refusal-at .ensures))
 
 zero-tlv-requires : tie.Need-zero-tlv-requires Inv-loop μ-loop
 zero-tlv-requires c κs = search needs
@@ -60,17 +60,17 @@ refused-requires-2 c κs = search needs
 returns-2 : tie.Need-returns-2 Inv-loop μ-loop
 returns-2 c = c .refused2 .ensures ∙ sym (c .before .before .before .before .before .loop .inv .1 .1 ∙ amiss _ _ _ _ (c .before .before .before .before .before .loop .inv .0 .0) (c .before .before .before .before .before .loop .inv .0 .1) _ (sym (c .before .before .before .before .step-at .ensures) ∙ c .before .before .refusal .given .1))
 
-enum-known-tlv : tie.Need-enum-known-tlv Inv-loop μ-loop
-enum-known-tlv c = search needs
+enum-known-kind : tie.Need-enum-known-kind Inv-loop μ-loop
+enum-known-kind c = search needs
 
-fault-requires-2 : tie.Need-fault-requires-2 Inv-loop μ-loop
-fault-requires-2 c κs = search needs
+refusal-at-requires-2 : tie.Need-refusal-at-requires-2 Inv-loop μ-loop
+refusal-at-requires-2 c κs = search needs
 
 refused-requires-3 : tie.Need-refused-requires-3 Inv-loop μ-loop
 refused-requires-3 c κs = search needs
 
 returns-3 : tie.Need-returns-3 Inv-loop μ-loop
-returns-3 c = c .refused3 .ensures ∙ ap refusedAnswer (c .before .fault2 .ensures) ∙ sym (c .before .before .before .before .before .before .before .loop .inv .1 .1 ∙ ap answer (onward-at (c .before .before .before) .full (c .before .before .if2 .taken)))
+returns-3 c = c .refused3 .ensures ∙ ap refusedAnswer (c .before .refusal-at2 .ensures) ∙ sym (c .before .before .before .before .before .before .before .loop .inv .1 .1 ∙ ap answer (onward-at (c .before .before .before) .full (c .before .before .if2 .taken)))
 
 mul-tlvs : tie.Need-mul-tlvs Inv-loop μ-loop
 mul-tlvs c = search needs
@@ -89,10 +89,13 @@ loop-again c =
     let o = onward-at (c .before) in
     ((omega arith, o .within), (omega arith, c .before .before .before .before .before .loop .inv .1 .1 ∙ ap answer (o .room (c .if2 .left))))
 
+refusal-at-requires-3 : tie.Need-refusal-at-requires-3 Inv-loop μ-loop
+refusal-at-requires-3 c κs = search needs
+
 returns-4 : tie.Need-returns-4 Inv-loop μ-loop
 returns-4 c =
-    let b = was-stop (c .before .before .before .before .loop .at) _ (drop (c .before .before .before .before .loop .at) (now (c .before .before .before .before .before .before .before .before .args .s))) (sym (c .before .before .before .step-at .ensures) ∙ c .before .place .given .1) in
-    rw (c .before .before .before .before .loop .inv .1 .1, resume-stop kit (c .before .before .before .before .loop .count) (c .before .before .before .before .loop .at) (c .before .before .before .before .loop .tlvs) (now (c .before .before .before .before .before .before .before .before .args .s)) (length (now (c .before .before .before .before .before .before .before .before .args .s)) - c .before .before .before .before .loop .count) (b .0), b .1)
+    let b = was-stop (c .before .before .before .before .before .loop .at) _ (drop (c .before .before .before .before .before .loop .at) (now (c .before .before .before .before .before .before .before .before .before .args .s))) (sym (c .before .before .before .before .step-at .ensures) ∙ c .before .before .place .given .1) in
+    rw (c .refusal-at3 .ensures, c .before .before .before .before .before .loop .inv .1 .1, resume-stop kit (c .before .before .before .before .before .loop .count) (c .before .before .before .before .before .loop .at) (c .before .before .before .before .before .loop .tlvs) (now (c .before .before .before .before .before .before .before .before .before .args .s)) (length (now (c .before .before .before .before .before .before .before .before .before .args .s)) - c .before .before .before .before .before .loop .count) (b .0), b .1)
 
 pub parse-termination-message-spec : {M : Type 1} → statement M
 parse-termination-message-spec =
@@ -100,7 +103,7 @@ parse-termination-message-spec =
     (tie.spec
     Inv-loop
     μ-loop
-    fault-requires
+    refusal-at-requires
     refused-requires
     returns
     zero-tlv-requires
@@ -110,8 +113,8 @@ parse-termination-message-spec =
     enum-known-refusal
     refused-requires-2
     returns-2
-    enum-known-tlv
-    fault-requires-2
+    enum-known-kind
+    refusal-at-requires-2
     refused-requires-3
     returns-3
     mul-tlvs
@@ -119,4 +122,5 @@ parse-termination-message-spec =
     add-count
     loop-less
     loop-again
+    refusal-at-requires-3
     returns-4)

@@ -1,48 +1,29 @@
 use borrow.Author.Needs.{needs}
+use borrow.Author.Tests.{lt-leb}
 use native.Mathlib.Omega.{arith}
 use denote.Ref.{now}
 use mathlib.Core.Path.{_≡_, sym, ap, _∙_}
-use Prim.Native.Nat.{_+_}
-use lib.ListN.{drop}
-use native.Mathlib.Nat.{add-zero}
-use Rattle.termination_message.proofs.Steps.{brief-at, strange-at, beyond-at, string-at, lacking-at, unknown-at, known-at}
-use Rattle.wire.specs.Bytes.{numAt}
-use Rattle.cursor.specs.Read.{cursor, fromU16}
+use Prim.Native.Nat.{_-_}
+use lib.ListN.{length}
+use Rattle.wire.specs.Refusal.{cutAt}
+use Rattle.cursor.specs.Read.{cut, fromU16}
 use Rattle.cursor.proofs.Reading.{Was, was-got, was-cut, was-in, tells16}
+use Rattle.tlv_head.proofs.Heads.{Head, was-found, was-short}
+use Rattle.termination_message.proofs.Steps.{brief-at, strange-at, beyond-at, string-at, lacking-at, unknown-at, known-at}
 use Rattle.termination_message.proofs.step_at.Statement.{statement}
 use Rattle.termination_message.proofs.step_at.Tie as tie
-use Rattle.termination_message.specs.declared.TerminationTlv.{TerminationTlv}
-use Rattle.termination_message.specs.declared.Step.the-variants.{Bad, Whole}
+use Rattle.termination_message.specs.declared.Step.the-variants.{Bad}
 
-was-kind : (c : tie.After-known-told) → Was 2 (now (c .before .before .before .before .before .before .before .args .s)) (c .before .before .before .before .before .before .before .args .at) (c .before .kind .given .0 .0) (c .before .kind .given .0 .1 .0)
-was-kind c = was-got 2 (now (c .before .before .before .before .before .before .before .args .s)) (c .before .before .before .before .before .before .before .args .at) (ap fromU16 (c .before .kind .given .1)) (tells16 _ (c .before .before .before .read-u16 .ensures))
+-- behind a head
+head-at : (c : tie.After-known-told) → Head 1 (now (c .before .before .before .before .before .args .s)) (c .before .before .before .before .before .args .at) (c .before .kind .given .0 .0) (c .before .kind .given .0 .1 .0) (c .before .kind .given .0 .1 .1 .0)
+head-at c = was-found 1 (now (c .before .before .before .before .before .args .s)) (c .before .before .before .before .before .args .at) (c .before .kind .given .1) (c .before .before .before .read-head .ensures)
 
-was-size : (c : tie.After-known-told2) → Was 2 (now (c .before .before .before .before .before .before .before .before .before .before .before .args .s)) (c .before .before .before .before .before .kind .given .0 .1 .0 .at) (c .before .size .given .0 .0) (c .before .size .given .0 .1 .0)
-was-size c = was-got 2 (now (c .before .before .before .before .before .before .before .before .before .before .before .args .s)) (c .before .before .before .before .before .kind .given .0 .1 .0 .at) (ap fromU16 (c .before .size .given .1)) (tells16 _ (c .before .before .before .read-u162 .ensures))
+-- behind a code
+code-at : (c : tie.After-known-told3) → Was 2 (now (c .before .before .before .before .before .before .before .before .before .before .before .before .before .args .s)) (c .before .before .before .before .before .before .before .before .before .kind .given .0 .1 .1 .0 .at) (c .before .code .given .0 .0) (c .before .code .given .0 .1 .0)
+code-at c = was-got 2 (now (c .before .before .before .before .before .before .before .before .before .before .before .before .before .args .s)) (c .before .before .before .before .before .before .before .before .before .kind .given .0 .1 .1 .0 .at) (ap fromU16 (c .before .code .given .1)) (tells16 _ (c .before .before .before .read-u16 .ensures))
 
-was-code : (c : tie.After-known-told3) → Was 2 (now (c .before .before .before .before .before .before .before .before .before .before .before .before .before .before .before .before .before .before .before .args .s)) (c .before .before .before .before .before .before .before .before .before .size .given .0 .1 .0 .at) (c .before .code .given .0 .0) (c .before .code .given .0 .1 .0)
-was-code c = was-got 2 (now (c .before .before .before .before .before .before .before .before .before .before .before .before .before .before .before .before .before .before .before .args .s)) (c .before .before .before .before .before .before .before .before .before .size .given .0 .1 .0 .at) (ap fromU16 (c .before .code .given .1)) (tells16 _ (c .before .before .before .read-u163 .ensures))
-
-place-is : (c : tie.After-known-told2) → c .before .size .given .0 .1 .0 .at ≡ c .before .before .before .before .before .before .before .before .before .before .before .args .at + 4
-place-is c = let a = was-kind (c .before .before .before .before) in let b = was-size c in omega arith
-
-kind-is : (c : tie.After-known-told) → numAt 2 (drop (c .before .before .before .before .before .before .before .args .at) (now (c .before .before .before .before .before .before .before .args .s))) 0 ≡ c .before .kind .given .0 .0
-kind-is c = was-in (c .before .before .before .before .before .before .before .args .at) 0 (sym (add-zero (c .before .before .before .before .before .before .before .args .at))) (was-kind c)
-
-size-is : (c : tie.After-known-told2) → numAt 2 (drop (c .before .before .before .before .before .before .before .before .before .before .before .args .at) (now (c .before .before .before .before .before .before .before .before .before .before .before .args .s))) 2 ≡ c .before .size .given .0 .0
-size-is c = was-in (c .before .before .before .before .before .before .before .before .before .before .before .args .at) 2 (was-kind (c .before .before .before .before) .next) (was-size c)
-
-code-is : (c : tie.After-known-told3) → numAt 2 (drop (c .before .before .before .before .before .before .before .before .before .before .before .before .before .before .before .before .before .before .before .args .at) (now (c .before .before .before .before .before .before .before .before .before .before .before .before .before .before .before .before .before .before .before .args .s))) 4 ≡ c .before .code .given .0 .0
-code-is c = was-in (c .before .before .before .before .before .before .before .before .before .before .before .before .before .before .before .before .before .before .before .args .at) 4 (place-is (c .before .before .before .before .before .before .before .before)) (was-code c)
-
-left-requires : tie.Need-left-requires
-left-requires c κs = search needs
-
-returns : tie.Need-returns
-returns c = sym (brief-at (now (c .before .before .before .args .s)) (c .before .before .before .args .at) (omega arith))
-
-read-u16-requires : tie.Need-read-u16-requires
-read-u16-requires c κs = search needs
+read-head-requires : tie.Need-read-head-requires
+read-head-requires c κs = search needs
 
 enum-known-kind : tie.Need-enum-known-kind
 enum-known-kind c = search needs
@@ -50,113 +31,98 @@ enum-known-kind c = search needs
 enum-told : tie.Need-enum-told
 enum-told c = search needs
 
-returns-2 : tie.Need-returns-2
-returns-2 c = let h = was-cut 2 (now (c .before .before .before .before .before .before .args .s)) (c .before .before .before .before .before .before .args .at) (ap fromU16 (c .enum-told .given .1)) (tells16 _ (c .before .before .read-u16 .ensures)) in absurd (omega arith)
-
-read-u16-requires-2 : tie.Need-read-u16-requires-2
-read-u16-requires-2 c κs = search needs
-
-enum-known-size : tie.Need-enum-known-size
-enum-known-size c = search needs
-
-enum-told-2 : tie.Need-enum-told-2
-enum-told-2 c = search needs
-
-returns-3 : tie.Need-returns-3
-returns-3 c =
-    let w = was-kind (c .before .before .before) in
-    let h = was-cut 2 (now (c .before .before .before .before .before .before .before .before .before .before .args .s)) (c .before .before .before .before .kind .given .0 .1 .0 .at) (ap fromU16 (c .enum-told2 .given .1)) (tells16 _ (c .before .before .read-u162 .ensures)) in absurd (omega arith)
+returns : tie.Need-returns
+returns c =
+    let h = was-short 1 (now (c .before .before .before .before .args .s)) (c .before .before .before .before .args .at) (c .enum-told .given .1) (c .before .before .read-head .ensures) in
+    sym (brief-at (now (c .before .before .before .before .args .s)) (c .before .before .before .before .args .at) (omega arith))
 
 cast-end : tie.Need-cast-end
 cast-end c = search needs
 
 add-end : tie.Need-add-end
-add-end c = let p = place-is c in omega arith
+add-end c = let h = head-at (c) in omega arith
 
-fault-requires : tie.Need-fault-requires
-fault-requires c κs = search needs
+refusal-at-requires : tie.Need-refusal-at-requires
+refusal-at-requires c κs = search needs
+
+returns-2 : tie.Need-returns-2
+returns-2 c =
+    let h = head-at (c .before .before) in
+    ap Bad (c .before .refusal-at .ensures) ∙ sym (strange-at _ _ (omega arith) _ (h .kind-is) (c .if1 .taken))
+
+returns-3 : tie.Need-returns-3
+returns-3 c =
+    let h = head-at (c .before .before .before) in
+    sym (beyond-at _ _ (omega arith) _ (h .kind-is) _ (h .size-is) _ (h .next) (omega arith) (omega arith))
+
+cast-t16 : tie.Need-cast-t16
+cast-t16 c = let h = head-at (c .before .before .before .before) in omega (arith, c .before .before .before .before .before .before .before .before .before .pre)
 
 returns-4 : tie.Need-returns-4
-returns-4 c = ap Bad (c .before .fault .ensures) ∙ sym (strange-at _ _ (omega arith) _ (kind-is (c .before .before .before .before .before .before)) (c .if2 .taken))
+returns-4 c =
+    let h = head-at (c .before .before .before .before) in
+    sym (string-at _ _ (omega arith) _ (h .kind-is) _ (h .size-is) _ (h .next) (c .if3 .taken) (omega arith))
 
-returns-5 : tie.Need-returns-5
-returns-5 c =
-    let p = place-is (c .before .before .before) in
-    sym (beyond-at _ _ (omega arith) _ (kind-is (c .before .before .before .before .before .before .before)) _ (size-is (c .before .before .before)) _ p (omega arith) (omega arith))
+read-u16-requires : tie.Need-read-u16-requires
+read-u16-requires c κs = search needs
 
-string-tlv-requires : tie.Need-string-tlv-requires
-string-tlv-requires c κs = search needs
-
-returns-6 : tie.Need-returns-6
-returns-6 c =
-    let p = place-is (c .before .before .before .before .before) in
-    ap (λ (t : TerminationTlv). Whole t (cursor (c .before .before .before .before .before .before .size .given .0 .1 .0 .at + c .before .before .before .before .before .before .size .given .0 .0))) (c .string-tlv .ensures)
-    ∙ sym (string-at _ _ (omega arith) _ (kind-is (c .before .before .before .before .before .before .before .before .before)) _ (size-is (c .before .before .before .before .before)) _ p (c .before .if4 .taken) (omega arith))
-
-read-u16-requires-3 : tie.Need-read-u16-requires-3
-read-u16-requires-3 c κs = search needs
+enum-known-refusal : tie.Need-enum-known-refusal
+enum-known-refusal c = search needs
 
 enum-known-code : tie.Need-enum-known-code
 enum-known-code c = search needs
 
-enum-told-3 : tie.Need-enum-told-3
-enum-told-3 c = search needs
+refusal-at-requires-2 : tie.Need-refusal-at-requires-2
+refusal-at-requires-2 c κs = search needs
 
-cut-at-requires : tie.Need-cut-at-requires
-cut-at-requires c κs = search needs
+returns-5 : tie.Need-returns-5
+returns-5 c =
+    let h = head-at (c .before .before .before .before .before .before .before .before .before .before) in
+    let w = code-at (c .before .before) in
+    ap Bad (c .refusal-at2 .ensures)
+    ∙ sym (unknown-at _ _ (omega arith) _ (h .kind-is) _ (h .size-is) _ (h .next) (omega arith) (omega arith) (w .left) _ (was-in (c .before .before .before .before .before .before .before .before .before .before .before .before .before .before .before .args .at) 4 (h .next) w) (c .before .if4 .taken))
+
+cast-t22 : tie.Need-cast-t22
+cast-t22 c = search needs
+
+returns-6 : tie.Need-returns-6
+returns-6 c =
+    let s = now (c .before .before .before .before .before .before .before .before .before .before .before .before .before .args .s) in
+    let place = c .before .before .before .before .before .before .before .before .before .kind .given .0 .1 .1 .0 .at in
+    let h = head-at (c .before .before .before .before .before .before .before .before) in
+    let answer-is = ap fromU16 (c .before .refusal .given .1) in
+    let told-is = tells16 _ (c .before .before .before .read-u16 .ensures) in
+    let few = was-cut 2 s place answer-is told-is in
+    let cut-is : cut (c .before .refusal .given .0 .0) ≡ cut (cutAt place) = sym answer-is ∙ told-is ∙ rw (lt-leb 2 (length s - place) few) in
+    let refusal-is : c .before .refusal .given .0 .0 ≡ cutAt place = cc in
+    ap Bad refusal-is ∙ sym (lacking-at _ _ (omega arith) _ (h .kind-is) _ (h .size-is) _ (h .next) (omega arith) (omega arith) few)
 
 returns-7 : tie.Need-returns-7
 returns-7 c =
-    let p = place-is (c .before .before .before .before .before .before .before .before) in
-    let h = was-cut 2 (now (c .before .before .before .before .before .before .before .before .before .before .before .before .before .before .before .before .before .before .before .args .s)) (c .before .before .before .before .before .before .before .before .before .size .given .0 .1 .0 .at) (ap fromU16 (c .before .enum-told3 .given .1)) (tells16 _ (c .before .before .before .read-u163 .ensures)) in
-    ap Bad (c .cut-at .ensures) ∙ sym (lacking-at _ _ (omega arith) _ (kind-is (c .before .before .before .before .before .before .before .before .before .before .before .before)) _ (size-is (c .before .before .before .before .before .before .before .before)) _ p (omega arith) (omega arith) h)
-
-fault-requires-2 : tie.Need-fault-requires-2
-fault-requires-2 c κs = search needs
-
-returns-8 : tie.Need-returns-8
-returns-8 c =
-    let p = place-is (c .before .before .before .before .before .before .before .before .before .before) in
-    ap Bad (c .fault2 .ensures)
-    ∙ sym (unknown-at _ _ (omega arith) _ (kind-is (c .before .before .before .before .before .before .before .before .before .before .before .before .before .before)) _ (size-is (c .before .before .before .before .before .before .before .before .before .before)) _ p (omega arith) (omega arith) (was-code (c .before .before) .left) _ (code-is (c .before .before)) (c .before .if5 .taken))
-
-reason-tlv-requires : tie.Need-reason-tlv-requires
-reason-tlv-requires c κs = search needs
-
-returns-9 : tie.Need-returns-9
-returns-9 c =
-    let p = place-is (c .before .before .before .before .before .before .before .before .before .before) in
-    let w = was-code (c .before .before) in
-    ap (λ (t : TerminationTlv). Whole t (c .before .before .before .code .given .0 .1 .0)) (c .reason-tlv .ensures)
-    ∙ sym (known-at _ _ (omega arith) _ (kind-is (c .before .before .before .before .before .before .before .before .before .before .before .before .before .before)) _ (size-is (c .before .before .before .before .before .before .before .before .before .before)) _ p (omega arith) (omega arith) (w .left) _ (code-is (c .before .before)) (omega arith) _ (w .next))
+    let h = head-at (c .before .before .before .before .before .before .before .before .before) in
+    let w = code-at (c .before) in
+    sym (known-at _ _ (omega arith) _ (h .kind-is) _ (h .size-is) _ (h .next) (omega arith) (omega arith) (w .left) _ (was-in (c .before .before .before .before .before .before .before .before .before .before .before .before .before .before .args .at) 4 (h .next) w) (omega arith) _ (w .next))
 
 pub step-at-spec : {M : Type 1} → statement M
 step-at-spec =
     tie.close
     (tie.spec
-    left-requires
-    returns
-    read-u16-requires
+    read-head-requires
     enum-known-kind
     enum-told
-    returns-2
-    read-u16-requires-2
-    enum-known-size
-    enum-told-2
-    returns-3
+    returns
     cast-end
     add-end
-    fault-requires
+    refusal-at-requires
+    returns-2
+    returns-3
+    cast-t16
     returns-4
-    returns-5
-    string-tlv-requires
-    returns-6
-    read-u16-requires-3
+    read-u16-requires
+    enum-known-refusal
     enum-known-code
-    enum-told-3
-    cut-at-requires
-    returns-7
-    fault-requires-2
-    returns-8
-    reason-tlv-requires
-    returns-9)
+    refusal-at-requires-2
+    returns-5
+    cast-t22
+    returns-6
+    returns-7)

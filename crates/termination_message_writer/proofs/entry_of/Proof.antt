@@ -1,28 +1,22 @@
 use borrow.Author.Needs.{needs}
-use mathlib.Core.Path.{sym, ap, _∙_}
-use Prim.Native.Nat.{ℕ}
-use Rattle.tlv_table.specs.declared.TlvValue.the-variants.{Number}
-use Rattle.termination_message_writer.specs.Write.{valueEntry}
+use borrow.Author.Tests.{eq-eqb, ne-eqb}
 use Rattle.termination_message_writer.proofs.entry_of.Statement.{statement}
 use Rattle.termination_message_writer.proofs.entry_of.Tie as tie
 
-enum-known-value : tie.Need-enum-known-value
-enum-known-value c = search needs
+cast-t6 : tie.Need-cast-t6
+cast-t6 c = search needs
 
-enum-known-value-2 : tie.Need-enum-known-value-2
-enum-known-value-2 c = search needs
-
-code-of-requires : tie.Need-code-of-requires
-code-of-requires c κs = search needs
+cast-t7 : tie.Need-cast-t7
+cast-t7 c = search needs
 
 returns : tie.Need-returns
-returns c = sym (ap (valueEntry (c .before .before .before .args .tlv .«info_len»)) (c .before .value .given .1))
+returns c = rw (eq-eqb (c .before .before .args .tlv .kind) 0 (c .if1 .taken))
+
+cast-t10 : tie.Need-cast-t10
+cast-t10 c = search needs
 
 returns-2 : tie.Need-returns-2
-returns-2 c =
-    ap (λ (n : ℕ). record { kind = 1; size = c .before .before .before .before .args .tlv .«info_len»; value = Number n }) (c .code-of .ensures)
-    ∙ sym (ap (valueEntry (c .before .before .before .before .args .tlv .«info_len»)) (c .before .before .value2 .given .1))
+returns-2 c = rw (ne-eqb (c .before .before .args .tlv .kind) 0 (c .if1 .left))
 
 pub entry-of-spec : {M : Type 1} → statement M
-entry-of-spec =
-    tie.close (tie.spec enum-known-value enum-known-value-2 code-of-requires returns returns-2)
+entry-of-spec = tie.close (tie.spec cast-t6 cast-t7 returns cast-t10 returns-2)

@@ -1,47 +1,49 @@
 use borrow.Author.Needs.{needs}
+use borrow.Author.Tests.{leb-true, leb-false}
 use native.Mathlib.Omega.{arith}
 use denote.Ref.{now}
-use Prim.Native.Nat.{_+_, _≤_}
+use mathlib.Core.Path.{_≡_, sym, ap, _∙_}
+use Prim.Native.Nat.{ℕ, _+_, _-_}
+use lib.Dec.{leb}
 use lib.ListN.{length}
-use Rattle.tlv_table.specs.Tlvs.{valueBytes}
-use Rattle.writing.proofs.Sets.{length-tlv, put-three}
+use Rattle.writing.proofs.Sets.{length-tlv, put-nothing}
+use Rattle.tlv_table.specs.Tlvs.{valueBytes, oneTlv}
 use Rattle.tlv_table.proofs.put_entry.Statement.{statement}
 use Rattle.tlv_table.proofs.put_entry.Tie as tie
 
-room : (c : tie.Start) → c .args .at + (4 + length (valueBytes (now (c .args .buffer)) (c .args .tlv .value))) ≤ length (now (c .args .out))
-room c = let n = length-tlv (c .args .tlv .kind) (c .args .tlv .size) (valueBytes (now (c .args .buffer)) (c .args .tlv .value)) in omega (arith, n, c .pre)
+-- what was asked is whether the bytes of the entry fit
+asked : (c : tie.After-fits2) → c .fits2 .result ≡ leb (length (oneTlv (now (c .before .before .before .before .args .buffer)) (c .before .before .before .before .args .tlv))) (length (now (c .before .before .before .before .args .out)) - c .before .before .before .before .args .at)
+asked c =
+    let a = c .before .before .before .before .args in
+    let long = length-tlv (a .tlv .kind) (a .tlv .size) (valueBytes (now (a .buffer)) (a .tlv .value)) in
+    c .fits2 .ensures ∙ ap (λ (n : ℕ). leb n (length (now (a .out)) - a .at)) (ap (λ (n : ℕ). 4 + n) (c .before .value-length .ensures) ∙ sym long)
 
-put-u16-requires : tie.Need-put-u16-requires
-put-u16-requires c κs = search needs
+value-length-requires : tie.Need-value-length-requires
+value-length-requires c κs = search needs
 
-add-put-u16 : tie.Need-add-put-u16
-add-put-u16 c = let h = room (c .before .before .before .before .before .before .before) in omega arith
+fits-requires : tie.Need-fits-requires
+fits-requires c κs = search needs
 
-put-u16-requires-2 : tie.Need-put-u16-requires-2
-put-u16-requires-2 c κs = search needs
-
-add-put-value : tie.Need-add-put-value
-add-put-value c = let h = room (c .before .before .before .before .before .before .before .before .before .before .before) in omega arith
-
-put-value-requires : tie.Need-put-value-requires
-put-value-requires c κs = search needs
+put-parts-requires : tie.Need-put-parts-requires
+put-parts-requires c κs =
+    let a = c .before .before .before .before .before .before .args in
+    let long = length-tlv (a .tlv .kind) (a .tlv .size) (valueBytes (now (a .buffer)) (a .tlv .value)) in
+    let h = leb-true (length (oneTlv (now (a .buffer)) (a .tlv))) (length (now (a .out)) - a .at) (sym (asked (c .before .before)) ∙ c .before .if1 .taken) in
+    (omega (arith, h, long))
 
 same-length : tie.Need-same-length
 same-length c = search needs
 
 returns : tie.Need-returns
-returns c =
-    let h = room (c .before .before .before .before .before .before .before .before .before .before .before .before .before .before) in
-    put-three (c .before .before .before .before .before .before .before .before .before .before .before .before .before .before .args .tlv .kind) (c .before .before .before .before .before .before .before .before .before .before .before .before .before .before .args .tlv .size) (valueBytes (now (c .before .before .before .before .before .before .before .before .before .before .before .before .before .before .args .buffer)) (c .before .before .before .before .before .before .before .before .before .before .before .before .before .before .args .tlv .value)) (now (c .before .before .before .before .before .before .before .before .before .before .before .before .before .before .args .out)) _ _ _ (c .before .before .before .before .before .before .before .before .before .before .before .before .before .before .args .at) (omega arith) (c .before .before .before .before .before .before .before .before .before .before .put-u16 .ensures) (c .before .before .before .before .before .before .put-u162 .ensures) (c .before .before .put-value .ensures)
+returns c = search needs
+
+returns-2 : tie.Need-returns-2
+returns-2 c =
+    let a = c .before .before .before .before .before .args in
+    sym (put-nothing (now (a .out)) (a .at) (oneTlv (now (a .buffer)) (a .tlv))
+    (leb-false (length (oneTlv (now (a .buffer)) (a .tlv))) (length (now (a .out)) - a .at) (sym (asked (c .before)) ∙ c .if1 .left)))
 
 pub put-entry-spec : {M : Type 1} → statement M
 put-entry-spec =
     tie.close
-    (tie.spec
-    put-u16-requires
-    add-put-u16
-    put-u16-requires-2
-    add-put-value
-    put-value-requires
-    same-length
-    returns)
+    (tie.spec value-length-requires fits-requires put-parts-requires same-length returns returns-2)
