@@ -4,7 +4,6 @@ use cursor::ReadU8;
 use cursor::ReadU32;
 use wire::Refusal;
 ghost use mathlib.Core.Path.{_≡_};
-ghost use Rattle.wire.specs.Refusal.{refusal};
 ghost use Rattle.common_header.specs.declared.CommonFields.{CommonFields};
 ghost use Rattle.common_header.specs.declared.CommonHeaderAnswer.{CommonHeaderAnswer};
 ghost use Rattle.common_header.specs.Shown.{typeOf, kindOf};
@@ -42,7 +41,7 @@ pub fn parse_bmp_common_header(s: &[u8]) -> CommonHeaderAnswer
     ensures { λ r. ⌜ r ≡ readCommonHeader (now (s .entry)) ⌝ }
 {
     if wire::LIMIT < s.len() {
-        return refused(wire::TOO_LONG, 0);
+        return CommonHeaderAnswer::Refused(wire::refusal_at(wire::TOO_LONG, 0));
     }
     match read_fields(s) {
         CommonFields::Refused(refusal) => CommonHeaderAnswer::Refused(refusal),
@@ -58,10 +57,7 @@ fn read_fields(s: &[u8]) -> CommonFields
         return CommonFields::Refused(wire::cut_at(0));
     };
     if version != 3 {
-        return CommonFields::Refused(Refusal {
-            number: wire::BAD_VERSION,
-            place: 0,
-        });
+        return CommonFields::Refused(wire::refusal_at(wire::BAD_VERSION, 0));
     }
     let ReadU32::Good(msg_len, after_length) = after_version.read_u32(s) else {
         return CommonFields::Refused(wire::cut_at(1));
@@ -76,7 +72,7 @@ fn judge(msg_len: u32, kind: u8) -> CommonHeaderAnswer
     ensures { λ r. ⌜ r ≡ judged (CommonFields.Whole «msg_len» kind) ⌝ }
 {
     if 6 < kind {
-        return refused(wire::UNKNOWN_KIND, 5);
+        return CommonHeaderAnswer::Refused(wire::refusal_at(wire::UNKNOWN_KIND, 5));
     }
     let header = BmpCommonHeader {
         version: 3,
@@ -84,16 +80,6 @@ fn judge(msg_len: u32, kind: u8) -> CommonHeaderAnswer
         msg_type: type_of(kind),
     };
     CommonHeaderAnswer::Good(header, 6)
-}
-
-fn refused(number: u8, place: usize) -> CommonHeaderAnswer
-    ensures { λ r. ⌜ r ≡ CommonHeaderAnswer.Refused (refusal number place) ⌝ }
-{
-    let refusal = Refusal {
-        number: number,
-        place: place,
-    };
-    CommonHeaderAnswer::Refused(refusal)
 }
 
 fn type_of(kind: u8) -> BmpMsgType

@@ -7,7 +7,6 @@ ghost use mathlib.Core.Path.{_≡_};
 ghost use Prim.Native.Nat.{_≤_};
 ghost use lib.ListN.{length};
 ghost use Rattle.wire.specs.Number as Number;
-ghost use Rattle.wire.specs.Refusal.{refusal};
 ghost use Rattle.initiation_message.specs.Shown.{typeOf, kindOf, infoOf, zeroTlv, refusedAnswer};
 ghost use Rattle.initiation_message.specs.Read.{stepAt, readInitiation};
 
@@ -93,7 +92,7 @@ pub fn parse_initiation_message(s: &[u8]) -> InitiationAnswer
     ensures { λ r. ⌜ r ≡ readInitiation (now (s .entry)) ⌝ }
 {
     if wire::LIMIT < s.len() {
-        return refused(wire::TOO_LONG, 0);
+        return refused(wire::refusal_at(wire::TOO_LONG, 0));
     }
     let zero = zero_tlv();
     let mut tlvs = [zero; 32];
@@ -104,7 +103,7 @@ pub fn parse_initiation_message(s: &[u8]) -> InitiationAnswer
             Step::Stop(place) => break place,
             Step::Whole(kind, size, place, next) => {
                 if 32 <= count {
-                    return refused(wire::TOO_MANY, at);
+                    return refused(wire::refusal_at(wire::TOO_MANY, at));
                 }
                 tlvs[count] = InitiationTlv {
                     kind: kind,
@@ -117,10 +116,7 @@ pub fn parse_initiation_message(s: &[u8]) -> InitiationAnswer
         }
     };
     InitiationAnswer {
-        refusal: Refusal {
-            number: wire::GOOD,
-            place: 0,
-        },
+        refusal: wire::no_refusal(),
         stop: stop,
         tail: at,
         message: InitiationMessage {
@@ -163,15 +159,12 @@ fn zero_tlv() -> InitiationTlv
     }
 }
 
-fn refused(number: u8, place: usize) -> InitiationAnswer
-    ensures { λ r. ⌜ r ≡ refusedAnswer (refusal number place) ⌝ }
+fn refused(refusal: Refusal) -> InitiationAnswer
+    ensures { λ r. ⌜ r ≡ refusedAnswer refusal ⌝ }
 {
     let zero = zero_tlv();
     InitiationAnswer {
-        refusal: Refusal {
-            number: number,
-            place: place,
-        },
+        refusal: refusal,
         stop: 0,
         tail: 0,
         message: InitiationMessage {

@@ -78,7 +78,18 @@ fn same_octets(a: [u8; 16], b: [u8; 16]) -> bool
     true
 }
 
-// How many warnings a word holds (docs/RULES.md, "Warnings").
+// Warnings are bits of one word (docs/RULES.md, "Warnings"), all five of a Loc-RIB. Its address is not zero.
+pub const STRAY_ADDRESS: u32 = 1;
+// Its BGP identifier is zero, and its distinguisher is not.
+pub const NO_ROUTER_ID: u32 = 2;
+// Its AS numbers are said to have 16 bits.
+pub const SHORT_AS: u32 = 4;
+// The name of its table is empty or too long.
+pub const BAD_TABLE_NAME: u32 = 8;
+// The name of its table is not told.
+pub const NO_TABLE_NAME: u32 = 16;
+
+// How many warnings a word holds.
 pub fn warning_count(warnings: u32) -> u32
     ensures { λ r. ⌜ r ≡ countOnes 32 warnings ⌝ }
 {

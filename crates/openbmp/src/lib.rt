@@ -6,7 +6,6 @@ use wire::View;
 ghost use mathlib.Core.Path.{_≡_};
 ghost use Prim.Native.Nat.{_≤_, _+_};
 ghost use lib.ListN.{length};
-ghost use Rattle.wire.specs.Refusal.{refusal};
 ghost use Rattle.openbmp.specs.Shown.{shown, refused};
 ghost use Rattle.openbmp.specs.Read.{familyOf, partsOf, cut, afterRowCount, afterGroupLength, afterAdminLength, afterType, afterFlags, afterVersions, afterMagic, readOpenBmpHeader};
 
@@ -51,7 +50,7 @@ pub fn parse_openbmp_header(s: &[u8]) -> OpenBmpAnswer
     ensures { λ r. ⌜ r ≡ readOpenBmpHeader (now (s .entry)) ⌝ }
 {
     if wire::LIMIT < s.len() {
-        return refuse(wire::TOO_LONG, 0);
+        return refused(wire::refusal_at(wire::TOO_LONG, 0));
     }
     if s.len() < 4 {
         return cut(s.len(), 0, 0);
@@ -63,7 +62,7 @@ fn after_magic(s: &[u8], magic: u32) -> OpenBmpAnswer
     ensures { λ r. ⌜ r ≡ afterMagic (now (s .entry)) magic ⌝ }
 {
     if magic != MAGIC_NUMBER {
-        return refuse(wire::BAD_OPEN_BMP, 0);
+        return refused(wire::refusal_at(wire::BAD_OPEN_BMP, 0));
     }
     if s.len() < 6 {
         return cut(s.len(), 0, 0);
@@ -76,10 +75,10 @@ fn after_versions(s: &[u8], major: u8, minor: u8) -> OpenBmpAnswer
     ensures { λ r. ⌜ r ≡ afterVersions (now (s .entry)) major minor ⌝ }
 {
     if major != MAJOR_VERSION {
-        return refuse(wire::BAD_OPEN_BMP, 4);
+        return refused(wire::refusal_at(wire::BAD_OPEN_BMP, 4));
     }
     if minor != MINOR_VERSION {
-        return refuse(wire::BAD_OPEN_BMP, 4); // and not 5
+        return refused(wire::refusal_at(wire::BAD_OPEN_BMP, 4));
     }
     if s.len() < 13 {
         return cut(s.len(), 0, 0);
@@ -91,7 +90,7 @@ fn after_flags(s: &[u8], flags: u8) -> OpenBmpAnswer
     ensures { λ r. ⌜ r ≡ afterFlags (now (s .entry)) flags ⌝ }
 {
     if flags & IS_ROUTER_MSG == 0 {
-        return refuse(wire::UNSUPPORTED, 12);
+        return refused(wire::refusal_at(wire::UNSUPPORTED, 12));
     }
     if s.len() < 14 {
         return cut(s.len(), 0, 0);
@@ -103,7 +102,7 @@ fn after_type(s: &[u8], object_type: u8) -> OpenBmpAnswer
     ensures { λ r. ⌜ r ≡ afterType (now (s .entry)) «object_type» ⌝ }
 {
     if object_type != RAW_BMP {
-        return refuse(wire::UNSUPPORTED, 13);
+        return refused(wire::refusal_at(wire::UNSUPPORTED, 13));
     }
     if s.len() < 40 {
         return cut(s.len(), 0, 0);
@@ -137,7 +136,10 @@ fn after_row_count(s: &[u8], admin: u16, group: u16, rows: u32) -> OpenBmpAnswer
     ensures { λ r. ⌜ r ≡ afterRowCount (now (s .entry)) admin group rows ⌝ }
 {
     if rows != 1 {
-        return refuse(wire::BAD_OPEN_BMP, 74 + (admin as usize) + (group as usize));
+        return refused(wire::refusal_at(
+            wire::BAD_OPEN_BMP,
+            74 + (admin as usize) + (group as usize),
+        ));
     }
     read_header(s, admin as usize, group as usize)
 }
@@ -171,10 +173,7 @@ fn read_header(s: &[u8], admin: usize, group: usize) -> OpenBmpAnswer
         },
     };
     OpenBmpAnswer {
-        refusal: Refusal {
-            number: wire::GOOD,
-            place: 0,
-        },
+        refusal: wire::no_refusal(),
         stop: 78 + admin + group,
         header: header,
     }
@@ -187,15 +186,6 @@ fn family(flags: u8) -> Afi
         return Afi::Ipv6;
     }
     Afi::Ipv4
-}
-
-fn refuse(number: u8, place: usize) -> OpenBmpAnswer
-    ensures { λ r. ⌜ r ≡ refused (refusal number place) ⌝ }
-{
-    refused_with(Refusal {
-        number: number,
-        place: place,
-    })
 }
 
 // The widths are those of all fields. A length that was not read yet is 0: its field stands behind the one that is cut.
@@ -221,11 +211,11 @@ fn cut(length: usize, admin: usize, group: usize) -> OpenBmpAnswer
         group,
         4,
     ];
-    refused_with(layout::cut_in(&widths, 0, length))
+    refused(layout::cut_in(&widths, 0, length))
 }
 
 // A refusal shows no header: all of it is zero.
-fn refused_with(refusal: Refusal) -> OpenBmpAnswer
+fn refused(refusal: Refusal) -> OpenBmpAnswer
     ensures { λ r. ⌜ r ≡ refused refusal ⌝ }
 {
     let nothing = View {

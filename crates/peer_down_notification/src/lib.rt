@@ -5,7 +5,6 @@ use wire::Refusal;
 use wire::View;
 ghost use mathlib.Core.Path.{_≡_};
 ghost use Prim.Native.Nat.{_≤_};
-ghost use Rattle.wire.specs.Refusal.{refusal};
 ghost use Rattle.peer_down_notification.specs.declared.PeerDownAnswer.{PeerDownAnswer};
 ghost use Rattle.peer_down_notification.specs.Shown.{reasonOf};
 ghost use Rattle.peer_down_notification.specs.Read.{hasData, goodOf, readPeerDown};
@@ -41,14 +40,14 @@ pub fn parse_peer_down_notification(s: &[u8]) -> PeerDownAnswer
     ensures { λ r. ⌜ r ≡ readPeerDown (now (s .entry)) ⌝ }
 {
     if wire::LIMIT < s.len() {
-        return refused(wire::TOO_LONG, 0);
+        return PeerDownAnswer::Refused(wire::refusal_at(wire::TOO_LONG, 0));
     }
     let start = Cursor { at: 0 };
     let ReadU8::Good(kind, _) = start.read_u8(s) else {
         return PeerDownAnswer::Refused(wire::cut_at(0));
     };
     if 6 < kind {
-        return refused(wire::UNKNOWN_KIND, 0);
+        return PeerDownAnswer::Refused(wire::refusal_at(wire::UNKNOWN_KIND, 0));
     }
     good(kind, wire::left(s, 1))
 }
@@ -89,16 +88,6 @@ pub fn has_data(kind: u8, rest: usize) -> bool
         return false;
     }
     true
-}
-
-fn refused(number: u8, place: usize) -> PeerDownAnswer
-    ensures { λ r. ⌜ r ≡ PeerDownAnswer.Refused (refusal number place) ⌝ }
-{
-    let refusal = Refusal {
-        number: number,
-        place: place,
-    };
-    PeerDownAnswer::Refused(refusal)
 }
 
 fn reason_of(kind: u8) -> PeerDownReason

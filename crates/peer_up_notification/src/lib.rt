@@ -14,7 +14,6 @@ ghost use lib.Dec.{eqb, ltb};
 ghost use lib.ListN.{length};
 ghost use Rattle.wire.specs.Number as Number;
 ghost use Rattle.wire.specs.Bytes.{pick};
-ghost use Rattle.wire.specs.Refusal.{refusal};
 ghost use Rattle.wire.specs.Walk.{readFrom};
 ghost use Rattle.layout.specs.Layout.{cutIn};
 ghost use Rattle.peer_up_notification.specs.Grammar.{widths};
@@ -55,11 +54,6 @@ pub struct PeerUpAnswer {
     pub warnings: u32,
     pub message: PeerUpNotification,
 }
-
-// Warnings are bits of one word (docs/RULES.md, "Warnings"): the name of a Loc-RIB's table is empty or too long, and it is not told.
-const BAD_TABLE_NAME: u32 = 8;
-
-const NO_TABLE_NAME: u32 = 16;
 
 // The type of a TLV that tells the name of a table.
 const TABLE_NAME: u16 = 3;
@@ -140,7 +134,7 @@ pub fn parse_peer_up_notification(s: &[u8], afi: Afi, peer_type: BmpPeerType) ->
     ensures { λ r. ⌜ r ≡ readPeerUp afi «peer_type» (now (s .entry)) ⌝ }
 {
     if wire::LIMIT < s.len() {
-        return refused(refusal_at(wire::TOO_LONG, 0));
+        return refused(wire::refusal_at(wire::TOO_LONG, 0));
     }
     if s.len() < 20 {
         return refused(cut(s.len()));
@@ -169,7 +163,7 @@ fn open_at(s: &[u8], at: usize) -> Open
     }
     let size = numbers::u16_at(s, at + 16);
     if size < 19 {
-        return Open::Broken(refusal_at(wire::BGP_LENGTH, at + 16));
+        return Open::Broken(wire::refusal_at(wire::BGP_LENGTH, at + 16));
     }
     if left < (size as usize) {
         return Open::Broken(wire::cut_at(at));
@@ -237,7 +231,7 @@ fn read_tlvs(s: &[u8], peer_type: BmpPeerType, front: Front, start: Cursor) -> P
             Step::Bad(refusal) => return refused(refusal),
             Step::Whole(kind, size, place, next) => {
                 if 32 <= count {
-                    return refused(refusal_at(wire::TOO_MANY, at));
+                    return refused(wire::refusal_at(wire::TOO_MANY, at));
                 }
                 tlvs[count] = tlv_of(kind, size, place);
                 names = heard(names, kind, size);
@@ -250,7 +244,7 @@ fn read_tlvs(s: &[u8], peer_type: BmpPeerType, front: Front, start: Cursor) -> P
     let sent_open = front.sent_open;
     let received_open = front.received_open;
     PeerUpAnswer {
-        refusal: refusal_at(wire::GOOD, 0),
+        refusal: wire::no_refusal(),
         stop: stop,
         warnings: warnings_of(peer_type, names),
         message: PeerUpNotification {
@@ -312,12 +306,12 @@ fn word_of(bad: bool, some: bool) -> u32
 {
     if bad {
         if some {
-            BAD_TABLE_NAME
+            models::BAD_TABLE_NAME
         } else {
-            BAD_TABLE_NAME + NO_TABLE_NAME
+            models::BAD_TABLE_NAME + models::NO_TABLE_NAME
         }
     } else {
-        if some { 0 } else { NO_TABLE_NAME }
+        if some { 0 } else { models::NO_TABLE_NAME }
     }
 }
 
@@ -369,14 +363,5 @@ fn refused(refusal: Refusal) -> PeerUpAnswer
             tlvs: [zero; 32],
             count: 0,
         },
-    }
-}
-
-fn refusal_at(number: u8, place: usize) -> Refusal
-    ensures { λ r. ⌜ r ≡ refusal number place ⌝ }
-{
-    Refusal {
-        number: number,
-        place: place,
     }
 }

@@ -30,30 +30,19 @@ pub struct PerPeerHeaderAnswer {
     pub header: BmpPerPeerHeader,
 }
 
-// Warnings are bits of one word (docs/RULES.md, "Warnings"): the address of a Loc-RIB is not zero, and its router-id is.
-const STRAY_ADDRESS: u32 = 1;
-
-const NO_ROUTER_ID: u32 = 2;
-
 // The type is judged before the length, so that an unknown one is named even where more is missing; where there is no byte at
 // all, u8_at gives 0 and the length refuses.
 pub fn parse_per_peer_header(s: &[u8]) -> PerPeerHeaderAnswer
     ensures { λ r. ⌜ r ≡ readPerPeerHeader (now (s .entry)) ⌝ }
 {
     if wire::LIMIT < s.len() {
-        return refused_with(Refusal {
-            number: wire::TOO_LONG,
-            place: 0,
-        });
+        return refused(wire::refusal_at(wire::TOO_LONG, 0));
     }
     if peer_type::LOCAL_RIB < numbers::u8_at(s, 0) {
-        return refused_with(Refusal {
-            number: wire::UNKNOWN_KIND,
-            place: 0,
-        });
+        return refused(wire::refusal_at(wire::UNKNOWN_KIND, 0));
     }
     if s.len() < 42 {
-        return refused_with(cut(s.len()));
+        return refused(cut(s.len()));
     }
     read_header(s)
 }
@@ -67,7 +56,7 @@ fn cut(length: usize) -> Refusal
 }
 
 // A refusal shows no header: all of it is zero, and its time unavailable.
-fn refused_with(refusal: Refusal) -> PerPeerHeaderAnswer
+fn refused(refusal: Refusal) -> PerPeerHeaderAnswer
     ensures { λ r. ⌜ r ≡ refused refusal ⌝ }
 {
     let header = BmpPerPeerHeader {
@@ -112,10 +101,7 @@ fn read_header(s: &[u8]) -> PerPeerHeaderAnswer
         microseconds: microseconds,
     };
     PerPeerHeaderAnswer {
-        refusal: Refusal {
-            number: wire::GOOD,
-            place: 0,
-        },
+        refusal: wire::no_refusal(),
         stop: 42,
         warnings: warnings_of(kind, address, id, distinguisher),
         header: header,
@@ -183,12 +169,16 @@ fn word_of(zero_filled: bool, no_router_id: bool) -> u32
     ensures { λ r. ⌜ r ≡ pick (not «zero_filled») 1 0 + pick «no_router_id» 2 0 ⌝ }
 {
     if zero_filled {
-        if no_router_id { NO_ROUTER_ID } else { 0 }
+        if no_router_id {
+            models::NO_ROUTER_ID
+        } else {
+            0
+        }
     } else {
         if no_router_id {
-            STRAY_ADDRESS + NO_ROUTER_ID
+            models::STRAY_ADDRESS + models::NO_ROUTER_ID
         } else {
-            STRAY_ADDRESS
+            models::STRAY_ADDRESS
         }
     }
 }

@@ -9,7 +9,6 @@ ghost use Prim.Native.Nat.{_+_, _≤_};
 ghost use lib.ListN.{length, drop};
 ghost use Rattle.wire.specs.Number as Number;
 ghost use Rattle.wire.specs.Bytes.{numAt};
-ghost use Rattle.wire.specs.Refusal.{refusal};
 ghost use Rattle.route_mirroring.specs.Shown.{infoOf, codeOf, valueOf, zeroTlv, refusedAnswer};
 ghost use Rattle.route_mirroring.specs.Read.{messageStep, informationStep, asStep, stepAt, readMirroring};
 
@@ -82,7 +81,7 @@ pub fn parse_route_mirroring(s: &[u8]) -> RouteMirroringAnswer
     ensures { λ r. ⌜ r ≡ readMirroring (now (s .entry)) ⌝ }
 {
     if wire::LIMIT < s.len() {
-        return refused(refusal_at(wire::TOO_LONG, 0));
+        return refused(wire::refusal_at(wire::TOO_LONG, 0));
     }
     let zero = zero_tlv();
     let mut tlvs = [zero; 32];
@@ -94,7 +93,7 @@ pub fn parse_route_mirroring(s: &[u8]) -> RouteMirroringAnswer
             Step::Bad(refusal) => return refused(refusal),
             Step::Whole(kind, size, number, next) => {
                 if 32 <= count {
-                    return refused(refusal_at(wire::TOO_MANY, at));
+                    return refused(wire::refusal_at(wire::TOO_MANY, at));
                 }
                 tlvs[count] = RouteMirroringTlv {
                     kind: kind,
@@ -107,10 +106,7 @@ pub fn parse_route_mirroring(s: &[u8]) -> RouteMirroringAnswer
         }
     };
     RouteMirroringAnswer {
-        refusal: Refusal {
-            number: wire::GOOD,
-            place: 0,
-        },
+        refusal: wire::no_refusal(),
         stop: stop,
         message: RouteMirroring {
             tlvs: tlvs,
@@ -129,7 +125,7 @@ fn step_at(s: &[u8], at: usize) -> Step
         return Step::Stop(at);
     };
     if 1 < kind {
-        return Step::Bad(refusal_at(wire::BAD_TLV_TYPE, at));
+        return Step::Bad(wire::refusal_at(wire::BAD_TLV_TYPE, at));
     }
     if kind == 0 {
         return message_at(s, at, size, value);
@@ -145,7 +141,7 @@ fn message_at(s: &[u8], at: usize, size: u16, value: Cursor) -> Step
 {
     let place = value.at;
     if size < 19 {
-        return Step::Bad(refusal_at(wire::BGP_LENGTH, at + 2));
+        return Step::Bad(wire::refusal_at(wire::BGP_LENGTH, at + 2));
     }
     if wire::left(s, place) < (size as usize) {
         return Step::Bad(wire::cut_at(place));
@@ -169,7 +165,7 @@ fn information_at(s: &[u8], at: usize, size: u16, value: Cursor) -> Step
         ReadU16::Cut(refusal) => Step::Bad(refusal),
         ReadU16::Good(code, next) => {
             if 1 < code {
-                return Step::Bad(refusal_at(wire::UNKNOWN_KIND, value.at));
+                return Step::Bad(wire::refusal_at(wire::UNKNOWN_KIND, value.at));
             }
             Step::Whole(1, size, code as u32, next)
         }
@@ -206,14 +202,5 @@ fn refused(refusal: Refusal) -> RouteMirroringAnswer
             tlvs: [zero; 32],
             count: 0,
         },
-    }
-}
-
-fn refusal_at(number: u8, place: usize) -> Refusal
-    ensures { λ r. ⌜ r ≡ refusal number place ⌝ }
-{
-    Refusal {
-        number: number,
-        place: place,
     }
 }

@@ -20,9 +20,6 @@ pub enum RouteMonitoringAnswer {
 // The fewest bytes of a BGP message: its header (RFC 4271, section 4.1).
 pub const BGP_HEADER: usize = 19;
 
-// A warning's bit (docs/RULES.md, "Warnings"): the AS numbers of a Loc-RIB are said to have 16 bits.
-const SHORT_AS: u32 = 4;
-
 pub fn parse_route_monitoring(
     s: &[u8],
     asn_len: AsnLength,
@@ -31,11 +28,7 @@ pub fn parse_route_monitoring(
     ensures { λ r. ⌜ r ≡ readRouteMonitoring «asn_len» «peer_type» (now (s .entry)) ⌝ }
 {
     if wire::LIMIT < s.len() {
-        let refusal = Refusal {
-            number: wire::TOO_LONG,
-            place: 0,
-        };
-        return RouteMonitoringAnswer::Refused(refusal);
+        return RouteMonitoringAnswer::Refused(wire::refusal_at(wire::TOO_LONG, 0));
     }
     if s.len() < BGP_HEADER {
         return RouteMonitoringAnswer::Refused(wire::cut_at(0));
@@ -56,7 +49,7 @@ fn warnings_of(asn_len: AsnLength, peer_type: BmpPeerType) -> u32
         return 0;
     }
     match asn_len {
-        AsnLength::Bits16 => SHORT_AS,
+        AsnLength::Bits16 => models::SHORT_AS,
         AsnLength::Bits32 => 0,
     }
 }

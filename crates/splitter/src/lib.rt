@@ -4,7 +4,6 @@ use common_header::CommonHeaderAnswer;
 use wire::Refusal;
 use wire::View;
 ghost use mathlib.Core.Path.{_≡_};
-ghost use Rattle.wire.specs.Refusal.{refusal};
 ghost use Rattle.splitter.specs.declared.SplitAnswer.{SplitAnswer};
 ghost use Rattle.splitter.specs.Read.{judged, splitOf};
 
@@ -29,10 +28,10 @@ fn judge(header: BmpCommonHeader, there: usize) -> SplitAnswer
 {
     let length = header.msg_len as usize;
     if length < 6 {
-        return refused(wire::BAD_MESSAGE_LENGTH, 1);
+        return SplitAnswer::Refused(wire::refusal_at(wire::BAD_MESSAGE_LENGTH, 1));
     }
     if wire::LIMIT < length {
-        return refused(wire::TOO_LONG, 1);
+        return SplitAnswer::Refused(wire::refusal_at(wire::TOO_LONG, 1));
     }
     if there < length {
         return SplitAnswer::Refused(wire::cut_at(6));
@@ -42,14 +41,4 @@ fn judge(header: BmpCommonHeader, there: usize) -> SplitAnswer
         length: length,
     };
     SplitAnswer::Message(header, message)
-}
-
-fn refused(number: u8, place: usize) -> SplitAnswer
-    ensures { λ r. ⌜ r ≡ SplitAnswer.Refused (refusal number place) ⌝ }
-{
-    let refusal = Refusal {
-        number: number,
-        place: place,
-    };
-    SplitAnswer::Refused(refusal)
 }

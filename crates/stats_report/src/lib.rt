@@ -7,7 +7,6 @@ use stats_type::StatType;
 use tlv_head::TlvHead;
 use wire::Refusal;
 ghost use mathlib.Core.Path.{_≡_};
-ghost use Rattle.wire.specs.Refusal.{refusal};
 ghost use Rattle.wire.specs.Walk.{readFrom};
 ghost use Rattle.stats_type.specs.Shown.{typeOf};
 ghost use Rattle.stats_report.specs.Shown.{zeroCounter, dataIn, refusedAnswer};
@@ -63,7 +62,7 @@ pub fn parse_stats_report(s: &[u8]) -> StatsAnswer
     ensures { λ r. ⌜ r ≡ readStats (now (s .entry)) ⌝ }
 {
     if wire::LIMIT < s.len() {
-        return refused_at(wire::TOO_LONG, 0);
+        return refused(wire::refusal_at(wire::TOO_LONG, 0));
     }
     let start = Cursor { at: 0 };
     match start.read_u32(s) {
@@ -87,7 +86,7 @@ fn read_counters(s: &[u8], stats_count: u32, start: Cursor) -> StatsAnswer
             Step::Bad(refusal) => return refused(refusal),
             Step::Whole(kind, size, afi, safi, value, next) => {
                 if 64 <= count {
-                    return refused_at(wire::TOO_MANY, at);
+                    return refused(wire::refusal_at(wire::TOO_MANY, at));
                 }
                 counters[count] = StatCounter {
                     kind: kind,
@@ -102,10 +101,7 @@ fn read_counters(s: &[u8], stats_count: u32, start: Cursor) -> StatsAnswer
         }
     };
     StatsAnswer {
-        refusal: Refusal {
-            number: wire::GOOD,
-            place: 0,
-        },
+        refusal: wire::no_refusal(),
         stop: stop,
         report: StatsReport {
             counters: counters,
@@ -148,16 +144,6 @@ fn zero_counter() -> StatCounter
         safi: 0,
         value: 0,
     }
-}
-
-fn refused_at(number: u8, place: usize) -> StatsAnswer
-    ensures { λ r. ⌜ r ≡ refusedAnswer (refusal number place) ⌝ }
-{
-    let refusal = Refusal {
-        number: number,
-        place: place,
-    };
-    refused(refusal)
 }
 
 fn refused(refusal: Refusal) -> StatsAnswer

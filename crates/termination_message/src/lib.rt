@@ -8,7 +8,6 @@ ghost use mathlib.Core.Path.{_≡_};
 ghost use Prim.Native.Nat.{_≤_};
 ghost use lib.ListN.{length};
 ghost use Rattle.wire.specs.Number as Number;
-ghost use Rattle.wire.specs.Refusal.{refusal};
 ghost use Rattle.termination_message.specs.Shown.{typeOf, reasonOf, codeOf, valueOf, zeroTlv, refusedAnswer};
 ghost use Rattle.termination_message.specs.Read.{stepAt, readTermination};
 
@@ -106,7 +105,7 @@ pub fn parse_termination_message(s: &[u8]) -> TerminationAnswer
     ensures { λ r. ⌜ r ≡ readTermination (now (s .entry)) ⌝ }
 {
     if wire::LIMIT < s.len() {
-        return refused(refusal_at(wire::TOO_LONG, 0));
+        return refused(wire::refusal_at(wire::TOO_LONG, 0));
     }
     let zero = zero_tlv();
     let mut tlvs = [zero; 32];
@@ -118,7 +117,7 @@ pub fn parse_termination_message(s: &[u8]) -> TerminationAnswer
             Step::Bad(refusal) => return refused(refusal),
             Step::Whole(kind, size, value, next) => {
                 if 32 <= count {
-                    return refused(refusal_at(wire::TOO_MANY, at));
+                    return refused(wire::refusal_at(wire::TOO_MANY, at));
                 }
                 tlvs[count] = TerminationTlv {
                     kind: kind,
@@ -131,7 +130,7 @@ pub fn parse_termination_message(s: &[u8]) -> TerminationAnswer
         }
     };
     TerminationAnswer {
-        refusal: refusal_at(wire::GOOD, 0),
+        refusal: wire::no_refusal(),
         stop: stop,
         tail: at,
         message: TerminationMessage {
@@ -152,7 +151,7 @@ fn step_at(s: &[u8], at: usize) -> Step
     };
     let place = value.at;
     let end = place + (size as usize);
-    let unknown = refusal_at(wire::UNKNOWN_KIND, at);
+    let unknown = wire::refusal_at(wire::UNKNOWN_KIND, at);
     if 1 < kind {
         return Step::Bad(unknown);
     }
@@ -166,7 +165,7 @@ fn step_at(s: &[u8], at: usize) -> Step
         ReadU16::Cut(refusal) => Step::Bad(refusal),
         ReadU16::Good(code, next) => {
             if 4 < code {
-                return Step::Bad(refusal_at(wire::UNKNOWN_KIND, place));
+                return Step::Bad(wire::refusal_at(wire::UNKNOWN_KIND, place));
             }
             Step::Whole(kind, size, code as u32, next)
         }
@@ -193,15 +192,6 @@ fn zero_tlv() -> TerminationTlv
         kind: 0,
         info_len: 0,
         value: 0,
-    }
-}
-
-fn refusal_at(number: u8, place: usize) -> Refusal
-    ensures { λ r. ⌜ r ≡ refusal number place ⌝ }
-{
-    Refusal {
-        number: number,
-        place: place,
     }
 }
 

@@ -6,7 +6,7 @@ use Prim.Native.Nat.{ℕ, _-_, _^_, _<_}
 use borrow.Author.Tests.{leb-true, leb-false}
 use lib.ListN.{length, take, drop}
 use Rattle.wire.specs.Bytes.{be, value, Bytes}
-use Rattle.wire.specs.Refusal.{cutAt}
+use Rattle.wire.specs.Refusal.{refusal, noRefusal, cutAt}
 use Rattle.wire.specs.View.{inside, viewed}
 use Rattle.wire.specs.declared.Refusal.{Refusal}
 use Rattle.wire.specs.declared.View.{View}
@@ -15,6 +15,14 @@ use Rattle.wire.proofs.Bytes.{value-be, be-value}
 use Rattle.wire.proofs.Views.{length-part, viewed-inside, viewed-none}
 
 -- ---- any two answers that a contract allows are equal
+-- Two answers of refusal_at for the same number and place are equal.
+pub refusal-at-determined : (number place : ℕ) (r q : Refusal) → r ≡ refusal number place → q ≡ refusal number place → r ≡ q
+refusal-at-determined number place r q = determined
+
+-- Two answers of no_refusal are equal.
+pub no-refusal-determined : (r q : Refusal) → r ≡ noRefusal → q ≡ noRefusal → r ≡ q
+no-refusal-determined r q = determined
+
 -- Two answers of cut_at for the same place are equal.
 pub cut-at-determined : (place : ℕ) (r q : Refusal) → r ≡ cutAt place → q ≡ cutAt place → r ≡ q
 cut-at-determined place r q = determined

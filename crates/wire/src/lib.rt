@@ -2,7 +2,7 @@
 ghost use mathlib.Core.Path.{_≡_};
 ghost use Prim.Native.Nat.{_-_};
 ghost use lib.ListN.{length};
-ghost use Rattle.wire.specs.Refusal.{cutAt};
+ghost use Rattle.wire.specs.Refusal.{refusal, noRefusal, cutAt};
 ghost use Rattle.wire.specs.View.{inside, viewed};
 
 // The numbers that answers carry (docs/RULES.md, "Numbers").
@@ -47,14 +47,28 @@ pub struct View {
     pub length: usize,
 }
 
+// The refusal by a number of the list above, at a place; a Cut is made by cut_at.
+pub fn refusal_at(number: u8, place: usize) -> Refusal
+    ensures { λ r. ⌜ r ≡ refusal number place ⌝ }
+{
+    Refusal {
+        number: number,
+        place: place,
+    }
+}
+
+// What stands for a refusal in a good answer.
+pub fn no_refusal() -> Refusal
+    ensures { λ r. ⌜ r ≡ noRefusal ⌝ }
+{
+    refusal_at(GOOD, 0)
+}
+
 // Every Cut is made here, so that a Cut that tells more changes one place.
 pub fn cut_at(place: usize) -> Refusal
     ensures { λ r. ⌜ r ≡ cutAt place ⌝ }
 {
-    Refusal {
-        number: CUT,
-        place: place,
-    }
+    refusal_at(CUT, place)
 }
 
 // How many bytes are left from a place on.

@@ -2,9 +2,7 @@
 use wire::Refusal;
 use wire::View;
 ghost use mathlib.Core.Path.{_≡_};
-ghost use Rattle.wire.specs.Refusal.{refusal};
 ghost use Rattle.writing.specs.Write.{putAt, tlvFits, writeAnswer};
-ghost use Rattle.writing.specs.declared.WriteAnswer.the-variants.{Refused};
 
 // What a writer answers: the length written, or why it wrote nothing.
 pub enum WriteAnswer {
@@ -43,22 +41,12 @@ pub fn write_answer(ok: bool, length: usize, room: usize) -> WriteAnswer
 {
     if ok {
         if wire::LIMIT < length {
-            return refused_write(wire::TOO_LONG);
+            return WriteAnswer::Refused(wire::refusal_at(wire::TOO_LONG, 0));
         }
         if room < length {
-            return refused_write(wire::NO_ROOM);
+            return WriteAnswer::Refused(wire::refusal_at(wire::NO_ROOM, 0));
         }
         return WriteAnswer::Written(length);
     }
-    refused_write(wire::BAD_FIELD)
-}
-
-fn refused_write(number: u8) -> WriteAnswer
-    ensures { λ r. ⌜ r ≡ Refused (refusal number 0) ⌝ }
-{
-    let refusal = Refusal {
-        number: number,
-        place: 0,
-    };
-    WriteAnswer::Refused(refusal)
+    WriteAnswer::Refused(wire::refusal_at(wire::BAD_FIELD, 0))
 }

@@ -1,17 +1,18 @@
 use borrow.Author.Needs.{needs}
 use denote.Ref.{now}
 use borrow.Author.Tests.{lt-ltb, le-ltb}
-use mathlib.Core.Path.{sym, _∙_}
+use mathlib.Core.Path.{sym, ap, _∙_}
 use lib.ListN.{length}
+use Rattle.common_header.specs.declared.CommonHeaderAnswer.{CommonHeaderAnswer}
 use Rattle.common_header.proofs.parse_bmp_common_header.Statement.{statement}
 use Rattle.common_header.proofs.parse_bmp_common_header.Tie as tie
 use Rattle.wire.specs.Number as Number
 
-refused-requires : tie.Need-refused-requires
-refused-requires c κs = search needs
+refusal-at-requires : tie.Need-refusal-at-requires
+refusal-at-requires c κs = search needs
 
 returns : tie.Need-returns
-returns c = c .refused .ensures ∙ sym (rw (lt-ltb Number.limit (length (now (c .before .before .before .args .s))) (c .before .if1 .taken)))
+returns c = ap CommonHeaderAnswer.Refused (c .refusal-at .ensures) ∙ sym (rw (lt-ltb Number.limit (length (now (c .before .before .before .args .s))) (c .before .if1 .taken)))
 
 read-fields-requires : tie.Need-read-fields-requires
 read-fields-requires c κs = search needs
@@ -35,7 +36,7 @@ pub parse-bmp-common-header-spec : {M : Type 1} → statement M
 parse-bmp-common-header-spec =
     tie.close
     (tie.spec
-    refused-requires
+    refusal-at-requires
     returns
     read-fields-requires
     enum-known-refusal

@@ -33,10 +33,14 @@ cut-at-requires c κs = search needs
 returns : tie.Need-returns
 returns c = ap CommonFields.Refused (c .cut-at .ensures) ∙ sym (no-version (now (c .before .before .before .before .before .args .s)) (was-cut 1 (now (c .before .before .before .before .before .args .s)) 0 (ap fromU8 (c .before .enum-told .given .1)) (tells8 _ (c .before .before .before .read-u8 .ensures))))
 
+refusal-at-requires : tie.Need-refusal-at-requires
+refusal-at-requires c κs = search needs
+
 returns-2 : tie.Need-returns-2
 returns-2 c =
-    let v = was-version (c .before) in
-    sym (other-version (now (c .before .before .before .before .before .before .args .s)) (v .left) (λ e. c .if1 .taken (v .number ∙ e)))
+    let v = was-version (c .before .before) in
+    ap CommonFields.Refused (c .refusal-at .ensures)
+    ∙ sym (other-version (now (c .before .before .before .before .before .before .before .args .s)) (v .left) (λ e. c .before .if1 .taken (v .number ∙ e)))
 
 read-u32-requires : tie.Need-read-u32-requires
 read-u32-requires c κs = search needs
@@ -92,6 +96,7 @@ read-fields-spec =
     enum-told
     cut-at-requires
     returns
+    refusal-at-requires
     returns-2
     read-u32-requires
     enum-known-msg-len

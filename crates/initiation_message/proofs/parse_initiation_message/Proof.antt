@@ -8,7 +8,7 @@ use lib.ListN.{length, drop}
 use native.Mathlib.Nat.{sub-zero}
 use Rattle.initiation_message.specs.Read.{kit, answer, readInitiation}
 use Rattle.initiation_message.specs.Grammar.{places}
-use Rattle.initiation_message.specs.Shown.{zeroTable}
+use Rattle.initiation_message.specs.Shown.{zeroTable, refusedAnswer}
 use Rattle.initiation_message.proofs.Laws.{takes, onward}
 use Rattle.initiation_message.proofs.Steps.{was-stop}
 use Rattle.wire.proofs.Walk.{resume-stop, onwards, TurnTo}
@@ -29,11 +29,14 @@ onward-at : (c : tie.After-known-told2 Inv-loop μ-loop)
     → TurnTo kit takes (c .before .before .before .before .loop .count) (c .before .before .before .before .loop .at) (c .before .before .before .before .loop .tlvs) (now (c .before .before .before .before .before .before .before .before .args .s)) (record { kind = c .before .kind .given .0 .0; «info_len» = c .before .kind .given .0 .1 .0; place = c .before .kind .given .0 .1 .1 .0 }) (c .before .kind .given .0 .1 .1 .1 .0 .at)
 onward-at c = onward _ _ _ _ _ _ _ _ (c .before .before .before .before .loop .inv .0 .0) (c .before .before .before .before .loop .inv .0 .1) (sym (c .before .before .before .step-at .ensures) ∙ c .before .kind .given .1)
 
+refusal-at-requires : tie.Need-refusal-at-requires Inv-loop μ-loop
+refusal-at-requires c κs = search needs
+
 refused-requires : tie.Need-refused-requires Inv-loop μ-loop
 refused-requires c κs = search needs
 
 returns : tie.Need-returns Inv-loop μ-loop
-returns c = rw (lt-ltb Number.limit (length (now (c .before .before .before .args .s))) (c .before .if1 .taken)) (c .refused .ensures)
+returns c = rw (lt-ltb Number.limit (length (now (c .before .before .before .before .args .s))) (c .before .before .if1 .taken)) ((c .refused .ensures ∙ ap refusedAnswer (c .before .refusal-at .ensures)))
 
 zero-tlv-requires : tie.Need-zero-tlv-requires Inv-loop μ-loop
 zero-tlv-requires c κs = search needs
@@ -51,11 +54,14 @@ enum-known-place c = search needs
 enum-known-kind : tie.Need-enum-known-kind Inv-loop μ-loop
 enum-known-kind c = search needs
 
+refusal-at-requires-2 : tie.Need-refusal-at-requires-2 Inv-loop μ-loop
+refusal-at-requires-2 c κs = search needs
+
 refused-requires-2 : tie.Need-refused-requires-2 Inv-loop μ-loop
 refused-requires-2 c κs = search needs
 
 returns-2 : tie.Need-returns-2 Inv-loop μ-loop
-returns-2 c = c .refused2 .ensures ∙ sym (c .before .before .before .before .before .before .loop .inv .1 .1 ∙ ap answer (onward-at (c .before .before) .full (c .before .if2 .taken)))
+returns-2 c = (c .refused2 .ensures ∙ ap refusedAnswer (c .before .refusal-at2 .ensures)) ∙ sym (c .before .before .before .before .before .before .before .loop .inv .1 .1 ∙ ap answer (onward-at (c .before .before .before) .full (c .before .before .if2 .taken)))
 
 mul-tlvs : tie.Need-mul-tlvs Inv-loop μ-loop
 mul-tlvs c = search needs
@@ -74,10 +80,13 @@ loop-again c =
     let o = onward-at (c .before) in
     ((omega arith, o .within), (omega arith, c .before .before .before .before .before .loop .inv .1 .1 ∙ ap answer (o .room (c .if2 .left))))
 
+no-refusal-requires : tie.Need-no-refusal-requires Inv-loop μ-loop
+no-refusal-requires c κs = search needs
+
 returns-3 : tie.Need-returns-3 Inv-loop μ-loop
 returns-3 c =
-    let b = was-stop (c .before .before .before .before .loop .at) _ (drop (c .before .before .before .before .loop .at) (now (c .before .before .before .before .before .before .before .before .args .s))) (sym (c .before .before .before .step-at .ensures) ∙ c .before .place .given .1) in
-    rw (c .before .before .before .before .loop .inv .1 .1, resume-stop kit (c .before .before .before .before .loop .count) (c .before .before .before .before .loop .at) (c .before .before .before .before .loop .tlvs) (now (c .before .before .before .before .before .before .before .before .args .s)) (length (now (c .before .before .before .before .before .before .before .before .args .s)) - c .before .before .before .before .loop .count) (b .0), b .1)
+    let b = was-stop (c .before .before .before .before .before .loop .at) _ (drop (c .before .before .before .before .before .loop .at) (now (c .before .before .before .before .before .before .before .before .before .args .s))) (sym (c .before .before .before .before .step-at .ensures) ∙ c .before .before .place .given .1) in
+    rw (c .no-refusal .ensures, c .before .before .before .before .before .loop .inv .1 .1, resume-stop kit (c .before .before .before .before .before .loop .count) (c .before .before .before .before .before .loop .at) (c .before .before .before .before .before .loop .tlvs) (now (c .before .before .before .before .before .before .before .before .before .args .s)) (length (now (c .before .before .before .before .before .before .before .before .before .args .s)) - c .before .before .before .before .before .loop .count) (b .0), b .1)
 
 pub parse-initiation-message-spec : {M : Type 1} → statement M
 parse-initiation-message-spec =
@@ -85,6 +94,7 @@ parse-initiation-message-spec =
     (tie.spec
     Inv-loop
     μ-loop
+    refusal-at-requires
     refused-requires
     returns
     zero-tlv-requires
@@ -92,6 +102,7 @@ parse-initiation-message-spec =
     step-at-requires
     enum-known-place
     enum-known-kind
+    refusal-at-requires-2
     refused-requires-2
     returns-2
     mul-tlvs
@@ -99,4 +110,5 @@ parse-initiation-message-spec =
     add-count
     loop-less
     loop-again
+    no-refusal-requires
     returns-3)

@@ -1,17 +1,21 @@
 use borrow.Author.Needs.{needs}
-use mathlib.Core.Path.{sym, _∙_}
+use mathlib.Core.Path.{sym, ap, _∙_}
 use borrow.Author.Tests.{lt-ltb, le-ltb}
 use Rattle.peer_type.proofs.Flags.{flag-set, flag-clear}
 use Rattle.openbmp.specs.Read.{afterFlags}
+use Rattle.openbmp.specs.Shown.{refused}
 use Rattle.openbmp.proofs.after_flags.Statement.{statement}
 use Rattle.openbmp.proofs.after_flags.Tie as tie
 
-refuse-requires : tie.Need-refuse-requires
-refuse-requires c κs = search needs
+refusal-at-requires : tie.Need-refusal-at-requires
+refusal-at-requires c κs = search needs
+
+refused-requires : tie.Need-refused-requires
+refused-requires c κs = search needs
 
 returns : tie.Need-returns
 unfolding afterFlags
-returns c = c .refuse .ensures ∙ sym (rw (flag-clear 7 (c .before .before .before .args .flags) (c .before .if1 .taken)))
+returns c = c .refused .ensures ∙ ap refused (c .before .refusal-at .ensures) ∙ sym (rw (flag-clear 7 (c .before .before .before .before .args .flags) (c .before .before .if1 .taken)))
 
 cut-requires : tie.Need-cut-requires
 cut-requires c κs = search needs
@@ -34,7 +38,8 @@ pub after-flags-spec : {M : Type 1} → statement M
 after-flags-spec =
     tie.close
     (tie.spec
-    refuse-requires
+    refusal-at-requires
+    refused-requires
     returns
     cut-requires
     returns-2

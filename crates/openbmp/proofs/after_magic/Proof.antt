@@ -1,16 +1,20 @@
 use borrow.Author.Needs.{needs}
-use mathlib.Core.Path.{sym, _∙_}
+use mathlib.Core.Path.{sym, ap, _∙_}
 use borrow.Author.Tests.{eq-eqb, ne-eqb, lt-ltb, le-ltb}
 use Rattle.openbmp.specs.Read.{afterMagic}
+use Rattle.openbmp.specs.Shown.{refused}
 use Rattle.openbmp.proofs.after_magic.Statement.{statement}
 use Rattle.openbmp.proofs.after_magic.Tie as tie
 
-refuse-requires : tie.Need-refuse-requires
-refuse-requires c κs = search needs
+refusal-at-requires : tie.Need-refusal-at-requires
+refusal-at-requires c κs = search needs
+
+refused-requires : tie.Need-refused-requires
+refused-requires c κs = search needs
 
 returns : tie.Need-returns
 unfolding afterMagic
-returns c = c .refuse .ensures ∙ sym (rw (ne-eqb _ 0x4F424D50 (c .before .if1 .taken)))
+returns c = c .refused .ensures ∙ ap refused (c .before .refusal-at .ensures) ∙ sym (rw (ne-eqb _ 0x4F424D50 (c .before .before .if1 .taken)))
 
 cut-requires : tie.Need-cut-requires
 cut-requires c κs = search needs
@@ -36,7 +40,8 @@ pub after-magic-spec : {M : Type 1} → statement M
 after-magic-spec =
     tie.close
     (tie.spec
-    refuse-requires
+    refusal-at-requires
+    refused-requires
     returns
     cut-requires
     returns-2

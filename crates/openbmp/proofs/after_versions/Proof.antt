@@ -1,23 +1,30 @@
 use borrow.Author.Needs.{needs}
-use mathlib.Core.Path.{sym, _∙_}
+use mathlib.Core.Path.{sym, ap, _∙_}
 use borrow.Author.Tests.{eq-eqb, ne-eqb, lt-ltb, le-ltb}
 use Rattle.openbmp.specs.Read.{afterVersions}
+use Rattle.openbmp.specs.Shown.{refused}
 use Rattle.openbmp.proofs.after_versions.Statement.{statement}
 use Rattle.openbmp.proofs.after_versions.Tie as tie
 
-refuse-requires : tie.Need-refuse-requires
-refuse-requires c κs = search needs
+refusal-at-requires : tie.Need-refusal-at-requires
+refusal-at-requires c κs = search needs
+
+refused-requires : tie.Need-refused-requires
+refused-requires c κs = search needs
 
 returns : tie.Need-returns
 unfolding afterVersions
-returns c = c .refuse .ensures ∙ sym (rw (ne-eqb _ 1 (c .before .if1 .taken)))
+returns c = c .refused .ensures ∙ ap refused (c .before .refusal-at .ensures) ∙ sym (rw (ne-eqb _ 1 (c .before .before .if1 .taken)))
 
-refuse-requires-2 : tie.Need-refuse-requires-2
-refuse-requires-2 c κs = search needs
+refusal-at-requires-2 : tie.Need-refusal-at-requires-2
+refusal-at-requires-2 c κs = search needs
+
+refused-requires-2 : tie.Need-refused-requires-2
+refused-requires-2 c κs = search needs
 
 returns-2 : tie.Need-returns-2
 unfolding afterVersions
-returns-2 c = c .refuse2 .ensures ∙ sym (rw (eq-eqb _ 1 (c .before .before .if1 .left), ne-eqb _ 7 (c .before .if2 .taken)))
+returns-2 c = c .refused2 .ensures ∙ ap refused (c .before .refusal-at2 .ensures) ∙ sym (rw (eq-eqb _ 1 (c .before .before .before .if1 .left), ne-eqb _ 7 (c .before .before .if2 .taken)))
 
 cut-requires : tie.Need-cut-requires
 cut-requires c κs = search needs
@@ -40,9 +47,11 @@ pub after-versions-spec : {M : Type 1} → statement M
 after-versions-spec =
     tie.close
     (tie.spec
-    refuse-requires
+    refusal-at-requires
+    refused-requires
     returns
-    refuse-requires-2
+    refusal-at-requires-2
+    refused-requires-2
     returns-2
     cut-requires
     returns-3

@@ -10,12 +10,12 @@ slice-aggregate-cut-in c = search needs
 cut-in-requires : tie.Need-cut-in-requires
 cut-in-requires c κs = search needs
 
-refused-with-requires : tie.Need-refused-with-requires
-refused-with-requires c κs = search needs
+refused-requires : tie.Need-refused-requires
+refused-requires c κs = search needs
 
 returns : tie.Need-returns
-returns c = c .refused-with .ensures ∙ ap refused (c .before .cut-in .ensures)
+returns c = c .refused .ensures ∙ ap refused (c .before .cut-in .ensures)
 
 pub cut-spec : {M : Type 1} → statement M
 cut-spec =
-    tie.close (tie.spec slice-aggregate-cut-in cut-in-requires refused-with-requires returns)
+    tie.close (tie.spec slice-aggregate-cut-in cut-in-requires refused-requires returns)

@@ -1,17 +1,21 @@
 use borrow.Author.Needs.{needs}
-use mathlib.Core.Path.{sym, _∙_}
+use mathlib.Core.Path.{sym, ap, _∙_}
 use borrow.Author.Tests.{lt-ltb, le-ltb}
 use denote.Ref.{now}
 use lib.ListN.{length}
 use Rattle.wire.specs.Number as Number
+use Rattle.openbmp.specs.Shown.{refused}
 use Rattle.openbmp.proofs.parse_openbmp_header.Statement.{statement}
 use Rattle.openbmp.proofs.parse_openbmp_header.Tie as tie
 
-refuse-requires : tie.Need-refuse-requires
-refuse-requires c κs = search needs
+refusal-at-requires : tie.Need-refusal-at-requires
+refusal-at-requires c κs = search needs
+
+refused-requires : tie.Need-refused-requires
+refused-requires c κs = search needs
 
 returns : tie.Need-returns
-returns c = c .refuse .ensures ∙ sym (rw (lt-ltb Number.limit (length (now (c .before .before .before .args .s))) (c .before .if1 .taken)))
+returns c = c .refused .ensures ∙ ap refused (c .before .refusal-at .ensures) ∙ sym (rw (lt-ltb Number.limit (length (now (c .before .before .before .before .args .s))) (c .before .before .if1 .taken)))
 
 cut-requires : tie.Need-cut-requires
 cut-requires c κs = search needs
@@ -32,7 +36,8 @@ pub parse-openbmp-header-spec : {M : Type 1} → statement M
 parse-openbmp-header-spec =
     tie.close
     (tie.spec
-    refuse-requires
+    refusal-at-requires
+    refused-requires
     returns
     cut-requires
     returns-2

@@ -15,11 +15,11 @@ use Rattle.peer_down_notification.specs.declared.PeerDownAnswer.{PeerDow
 was-kind : (c : tie.After-known-told) → Was 1 (now (c .before .before .before .before .before .before .args .s)) 0 (c .before .kind .given .0 .0) (c .before .kind .given .0 .1 .0)
 was-kind c = was-got 1 (now (c .before .before .before .before .before .before .args .s)) 0 (ap fromU8 (c .before .kind .given .1)) (tells8 _ (c .before .before .before .read-u8 .ensures))
 
-refused-requires : tie.Need-refused-requires
-refused-requires c κs = search needs
+refusal-at-requires : tie.Need-refusal-at-requires
+refusal-at-requires c κs = search needs
 
 returns : tie.Need-returns
-returns c = c .refused .ensures ∙ sym (rw (lt-ltb Number.limit (length (now (c .before .before .before .args .s))) (c .before .if1 .taken)))
+returns c = ap PeerDownAnswer.Refused (c .refusal-at .ensures) ∙ sym (rw (lt-ltb Number.limit (length (now (c .before .before .before .args .s))) (c .before .if1 .taken)))
 
 read-u8-requires : tie.Need-read-u8-requires
 read-u8-requires c κs = search needs
@@ -38,13 +38,13 @@ returns-2 c =
     let h = was-cut 1 (now (c .before .before .before .before .before .before .args .s)) 0 (ap fromU8 (c .before .enum-told .given .1)) (tells8 _ (c .before .before .before .read-u8 .ensures)) in
     ap PeerDownAnswer.Refused (c .cut-at .ensures) ∙ sym (rw (le-ltb Number.limit (length (now (c .before .before .before .before .before .before .args .s))) (c .before .before .before .before .if1 .left), lt-leb 1 (length (now (c .before .before .before .before .before .before .args .s)) - 0) h))
 
-refused-requires-2 : tie.Need-refused-requires-2
-refused-requires-2 c κs = search needs
+refusal-at-requires-2 : tie.Need-refusal-at-requires-2
+refusal-at-requires-2 c κs = search needs
 
 returns-3 : tie.Need-returns-3
 returns-3 c =
     let w = was-kind (c .before .before) in
-    c .refused2 .ensures ∙ sym (rw (le-ltb Number.limit (length (now (c .before .before .before .before .before .before .before .before .args .s))) (c .before .before .before .before .before .before .if1 .left), le-leb 1 (length (now (c .before .before .before .before .before .before .before .before .args .s)) - 0) (w .left), ← w .number, lt-ltb 6 (c .before .before .before .kind .given .0 .0) (c .before .if2 .taken)))
+    ap PeerDownAnswer.Refused (c .refusal-at2 .ensures) ∙ sym (rw (le-ltb Number.limit (length (now (c .before .before .before .before .before .before .before .before .args .s))) (c .before .before .before .before .before .before .if1 .left), le-leb 1 (length (now (c .before .before .before .before .before .before .before .before .args .s)) - 0) (w .left), ← w .number, lt-ltb 6 (c .before .before .before .kind .given .0 .0) (c .before .if2 .taken)))
 
 left-requires : tie.Need-left-requires
 left-requires c κs = search needs
@@ -62,14 +62,14 @@ pub parse-peer-down-notification-spec : {M : Type 1} → statement M
 parse-peer-down-notification-spec =
     tie.close
     (tie.spec
-    refused-requires
+    refusal-at-requires
     returns
     read-u8-requires
     enum-known-kind
     enum-told
     cut-at-requires
     returns-2
-    refused-requires-2
+    refusal-at-requires-2
     returns-3
     left-requires
     good-requires

@@ -108,8 +108,8 @@ loop-again c =
       ),
     )
 
-refusal-at-requires-2 : tie.Need-refusal-at-requires-2 Inv-loop μ-loop
-refusal-at-requires-2 c κs = search needs
+no-refusal-requires : tie.Need-no-refusal-requires Inv-loop μ-loop
+no-refusal-requires c κs = search needs
 
 warnings-of-requires : tie.Need-warnings-of-requires Inv-loop μ-loop
 warnings-of-requires c κs = search needs
@@ -119,7 +119,7 @@ returns-3 c =
     let word = c .warnings-of .ensures ∙ ap (wordOf (c .before .before .before .before .before .before .before .before .before .before .before .before .before .args .peer-type)) (c .before .before .before .before .before .before .before .before .before .loop .inv .1 .1 .0) in
     ends-well (c .before .before .before .before .before .before .before .before .before .before .before .before .before .args .peer-type) (c .before .before .before .before .before .before .before .before .before .before .before .before .before .args .front) (c .before .before .before .before .before .before .before .before .before .loop .count) (c .before .before .before .before .before .before .before .before .before .loop .at) (c .before .before .before .before .before .before .before .before .before .loop .tlvs) (now (c .before .before .before .before .before .before .before .before .before .before .before .before .before .args .s)) _ _ _ (c .before .before .before .before .before .before .before .before .before .loop .inv .1 .1 .1)
     (sym (c .before .before .before .before .before .before .before .before .step-at .ensures) ∙ c .before .before .before .before .before .before .place .given .1)
-    (ap₂ (λ (r : Refusal) (w : ℕ). record { refusal = r; stop = c .before .before .before .before .before .before .place .given .0 .0; warnings = w; message = messageOf (c .before .before .before .before .before .before .before .before .before .before .before .before .before .args .front) (c .before .before .before .before .before .before .before .before .before .loop .count) (c .before .before .before .before .before .before .before .before .before .loop .tlvs) }) (c .before .refusal-at2 .ensures) word)
+    (ap₂ (λ (r : Refusal) (w : ℕ). record { refusal = r; stop = c .before .before .before .before .before .before .place .given .0 .0; warnings = w; message = messageOf (c .before .before .before .before .before .before .before .before .before .before .before .before .before .args .front) (c .before .before .before .before .before .before .before .before .before .loop .count) (c .before .before .before .before .before .before .before .before .before .loop .tlvs) }) (c .before .no-refusal .ensures) word)
 
 pub read-tlvs-spec : {M : Type 1} → statement M
 read-tlvs-spec =
@@ -146,6 +146,6 @@ read-tlvs-spec =
     add-count
     loop-less
     loop-again
-    refusal-at-requires-2
+    no-refusal-requires
     warnings-of-requires
     returns-3)

@@ -11,7 +11,6 @@ use Rattle.peer_type.specs.Peer.{typeOf}
 use Rattle.per_peer_header.specs.Warnings.{warningsOf, warnings}
 use Rattle.per_peer_header.proofs.Fields.{there, address-there, address-bytes}
 use Rattle.wire.specs.Bytes.{numAt}
-use Rattle.wire.specs.Refusal.{refusal, noRefusal}
 use Rattle.times.specs.Time.{timeOf}
 use Rattle.per_peer_header.proofs.read_header.Statement.{statement}
 use Rattle.per_peer_header.proofs.read_header.Tie as tie
@@ -52,31 +51,35 @@ shown-asn-requires c κs = search needs
 timestamp-requires : tie.Need-timestamp-requires
 timestamp-requires c κs = search needs
 
+no-refusal-requires : tie.Need-no-refusal-requires
+no-refusal-requires c κs = search needs
+
 warnings-of-requires : tie.Need-warnings-of-requires
 warnings-of-requires c κs = search needs
 
 returns : tie.Need-returns
 returns c =
-    let s = now (c .before .before .before .before .before .before .before .before .before .before .before .before .before .before .args .s) in
-    let long : 42 ≤ length s = c .before .before .before .before .before .before .before .before .before .before .before .before .before .before .pre in
-    let kind = c .before .before .before .before .before .before .before .before .before .before .before .before .u8-at .ensures ∙ there s long 1 0 (lit≤ tt) in
-    let flags = c .before .before .before .before .before .before .before .before .before .before .before .u8-at2 .ensures ∙ there s long 1 1 (lit≤ tt) in
-    let distinguisher = c .before .before .before .before .before .before .before .before .before .before .u64-at .ensures ∙ there s long 8 2 (lit≤ tt) in
-    let octets = c .before .before .before .before .before .before .before .before .before .sixteen-at .ensures ∙ address-there s long in
-    let asn = c .before .before .before .u32-at4 .ensures ∙ there s long 4 26 (lit≤ tt) in
-    let id = c .before .before .before .before .before .before .before .before .u32-at .ensures ∙ there s long 4 30 (lit≤ tt) in
-    let seconds = c .before .before .before .before .before .before .before .u32-at2 .ensures ∙ there s long 4 34 (lit≤ tt) in
-    let microseconds = c .before .before .before .before .before .before .u32-at3 .ensures ∙ there s long 4 38 (lit≤ tt) in
+    let s = now (c .before .before .before .before .before .before .before .before .before .before .before .before .before .before .before .args .s) in
+    let long : 42 ≤ length s = c .before .before .before .before .before .before .before .before .before .before .before .before .before .before .before .pre in
+    let kind = c .before .before .before .before .before .before .before .before .before .before .before .before .before .u8-at .ensures ∙ there s long 1 0 (lit≤ tt) in
+    let flags = c .before .before .before .before .before .before .before .before .before .before .before .before .u8-at2 .ensures ∙ there s long 1 1 (lit≤ tt) in
+    let distinguisher = c .before .before .before .before .before .before .before .before .before .before .before .u64-at .ensures ∙ there s long 8 2 (lit≤ tt) in
+    let octets = c .before .before .before .before .before .before .before .before .before .before .sixteen-at .ensures ∙ address-there s long in
+    let asn = c .before .before .before .before .u32-at4 .ensures ∙ there s long 4 26 (lit≤ tt) in
+    let id = c .before .before .before .before .before .before .before .before .before .u32-at .ensures ∙ there s long 4 30 (lit≤ tt) in
+    let seconds = c .before .before .before .before .before .before .before .before .u32-at2 .ensures ∙ there s long 4 34 (lit≤ tt) in
+    let microseconds = c .before .before .before .before .before .before .before .u32-at3 .ensures ∙ there s long 4 38 (lit≤ tt) in
+    let none = c .before .no-refusal .ensures in
     let warned =
     c .warnings-of .ensures
     ∙ (λ i. warningsOf (kind i) (octets i) (id i) (distinguisher i))
     ∙ ap (λ (l : List ℕ). warningsOf (numAt 1 s 0) l (numAt 4 s 30) (numAt 8 s 2)) (sym (address-bytes (numAt 1 s 0) (numAt 1 s 1) (take 16 (drop 10 s)))) in
-    let peer-type = c .before .before .before .before .before .type-of .ensures ∙ ap typeOf kind in
-    let peer-ip = c .before .before .before .before .shown-address .ensures ∙ (λ i. shownAddress (addressField (kind i) (flags i) (octets i))) in
-    let peer-asn = c .before .before .shown-asn .ensures ∙ (λ i. shownAsn (asField (kind i) (flags i) (asn i))) in
-    let timestamp = c .before .timestamp .ensures ∙ (λ i. timeOf (seconds i) (microseconds i)) in
+    let peer-type = c .before .before .before .before .before .before .type-of .ensures ∙ ap typeOf kind in
+    let peer-ip = c .before .before .before .before .before .shown-address .ensures ∙ (λ i. shownAddress (addressField (kind i) (flags i) (octets i))) in
+    let peer-asn = c .before .before .before .shown-asn .ensures ∙ (λ i. shownAsn (asField (kind i) (flags i) (asn i))) in
+    let timestamp = c .before .before .timestamp .ensures ∙ (λ i. timeOf (seconds i) (microseconds i)) in
     λ i. record {
-      refusal = noRefusal;
+      refusal = none i;
       stop = 42;
       warnings = warned i;
       header = record {
@@ -108,5 +111,6 @@ read-header-spec =
     u32-at-requires-4
     shown-asn-requires
     timestamp-requires
+    no-refusal-requires
     warnings-of-requires
     returns)

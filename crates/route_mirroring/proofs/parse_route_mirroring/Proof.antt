@@ -89,10 +89,13 @@ loop-again c =
     let o = onward-at (c .before) in
     ((omega arith, o .within), (omega arith, c .before .before .before .before .before .loop .inv .1 .1 ∙ ap answer (o .room (c .if2 .left))))
 
+no-refusal-requires : tie.Need-no-refusal-requires Inv-loop μ-loop
+no-refusal-requires c κs = search needs
+
 returns-4 : tie.Need-returns-4 Inv-loop μ-loop
 returns-4 c =
-    let b = was-stop (c .before .before .before .before .loop .at) _ (step (drop (c .before .before .before .before .loop .at) (now (c .before .before .before .before .before .before .before .before .args .s)))) (sym (c .before .before .before .step-at .ensures) ∙ c .before .place .given .1) in
-    rw (c .before .before .before .before .loop .inv .1 .1, resume-stop kit (c .before .before .before .before .loop .count) (c .before .before .before .before .loop .at) (c .before .before .before .before .loop .tlvs) (now (c .before .before .before .before .before .before .before .before .args .s)) (length (now (c .before .before .before .before .before .before .before .before .args .s)) - c .before .before .before .before .loop .count) (b .0), b .1)
+    let b = was-stop (c .before .before .before .before .before .loop .at) _ (step (drop (c .before .before .before .before .before .loop .at) (now (c .before .before .before .before .before .before .before .before .before .args .s)))) (sym (c .before .before .before .before .step-at .ensures) ∙ c .before .before .place .given .1) in
+    rw (c .no-refusal .ensures, c .before .before .before .before .before .loop .inv .1 .1, resume-stop kit (c .before .before .before .before .before .loop .count) (c .before .before .before .before .before .loop .at) (c .before .before .before .before .before .loop .tlvs) (now (c .before .before .before .before .before .before .before .before .before .args .s)) (length (now (c .before .before .before .before .before .before .before .before .before .args .s)) - c .before .before .before .before .before .loop .count) (b .0), b .1)
 
 pub parse-route-mirroring-spec : {M : Type 1} → statement M
 parse-route-mirroring-spec =
@@ -119,4 +122,5 @@ parse-route-mirroring-spec =
     add-count
     loop-less
     loop-again
+    no-refusal-requires
     returns-4)

@@ -9,8 +9,11 @@ use Rattle.route_monitoring.specs.declared.RouteMonitoringAnswer.{RouteM
 use Rattle.route_monitoring.proofs.parse_route_monitoring.Statement.{statement}
 use Rattle.route_monitoring.proofs.parse_route_monitoring.Tie as tie
 
+refusal-at-requires : tie.Need-refusal-at-requires
+refusal-at-requires c κs = search needs
+
 returns : tie.Need-returns
-returns c = sym (rw (lt-ltb Number.limit (length (now (c .before .before .args .s))) (c .if1 .taken)))
+returns c = ap RouteMonitoringAnswer.Refused (c .refusal-at .ensures) ∙ sym (rw (lt-ltb Number.limit (length (now (c .before .before .before .args .s))) (c .before .if1 .taken)))
 
 cut-at-requires : tie.Need-cut-at-requires
 cut-at-requires c κs = search needs
@@ -31,4 +34,5 @@ returns-3 c =
 
 pub parse-route-monitoring-spec : {M : Type 1} → statement M
 parse-route-monitoring-spec =
-    tie.close (tie.spec returns cut-at-requires returns-2 warnings-of-requires returns-3)
+    tie.close
+    (tie.spec refusal-at-requires returns cut-at-requires returns-2 warnings-of-requires returns-3)

@@ -9,17 +9,17 @@ use Rattle.splitter.specs.declared.SplitAnswer.{SplitAnswer}
 cast-length : tie.Need-cast-length
 cast-length c = search needs
 
-refused-requires : tie.Need-refused-requires
-refused-requires c κs = search needs
+refusal-at-requires : tie.Need-refusal-at-requires
+refusal-at-requires c κs = search needs
 
 returns : tie.Need-returns
-returns c = c .refused .ensures ∙ sym (rw (lt-ltb (c .before .before .before .args .header .«msg_len») 6 (c .before .if1 .taken)))
+returns c = ap SplitAnswer.Refused (c .refusal-at .ensures) ∙ sym (rw (lt-ltb (c .before .before .before .args .header .«msg_len») 6 (c .before .if1 .taken)))
 
-refused-requires-2 : tie.Need-refused-requires-2
-refused-requires-2 c κs = search needs
+refusal-at-requires-2 : tie.Need-refusal-at-requires-2
+refusal-at-requires-2 c κs = search needs
 
 returns-2 : tie.Need-returns-2
-returns-2 c = c .refused2 .ensures ∙ sym (rw (le-ltb (c .before .before .before .before .args .header .«msg_len») 6 (c .before .before .if1 .left), lt-ltb Number.limit (c .before .before .before .before .args .header .«msg_len») (c .before .if2 .taken)))
+returns-2 c = ap SplitAnswer.Refused (c .refusal-at2 .ensures) ∙ sym (rw (le-ltb (c .before .before .before .before .args .header .«msg_len») 6 (c .before .before .if1 .left), lt-ltb Number.limit (c .before .before .before .before .args .header .«msg_len») (c .before .if2 .taken)))
 
 cut-at-requires : tie.Need-cut-at-requires
 cut-at-requires c κs = search needs
@@ -37,9 +37,9 @@ judge-spec =
     tie.close
     (tie.spec
     cast-length
-    refused-requires
+    refusal-at-requires
     returns
-    refused-requires-2
+    refusal-at-requires-2
     returns-2
     cut-at-requires
     returns-3

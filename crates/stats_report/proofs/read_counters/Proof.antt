@@ -1,11 +1,12 @@
 use borrow.Author.Needs.{needs}
 use native.Mathlib.Omega.{arith}
 use denote.Ref.{now}
-use mathlib.Core.Path.{_≡_, sym, _∙_}
+use mathlib.Core.Path.{_≡_, sym, ap, _∙_}
 use Prim.Native.Nat.{_-_, _≤_}
 use native.Mathlib.Nat.{sub-zero}
 use Rattle.stats_report.specs.Read.{kit, answer}
 use Rattle.stats_report.specs.Grammar.{places}
+use Rattle.stats_report.specs.Shown.{refusedAnswer}
 use Rattle.stats_report.proofs.Laws.{refuses, Onward, onward}
 use Rattle.wire.specs.Walk.{resume, readFrom}
 use Rattle.wire.proofs.Walk.{resume-done}
@@ -46,11 +47,14 @@ returns c = c .refused .ensures ∙ sym (c .before .before .before .before .befo
 enum-known-kind : tie.Need-enum-known-kind Inv-loop μ-loop
 enum-known-kind c = search needs
 
-refused-at-requires : tie.Need-refused-at-requires Inv-loop μ-loop
-refused-at-requires c κs = search needs
+refusal-at-requires : tie.Need-refusal-at-requires Inv-loop μ-loop
+refusal-at-requires c κs = search needs
+
+refused-requires-2 : tie.Need-refused-requires-2 Inv-loop μ-loop
+refused-requires-2 c κs = search needs
 
 returns-2 : tie.Need-returns-2 Inv-loop μ-loop
-returns-2 c = c .refused-at .ensures ∙ sym (c .before .before .before .before .before .before .before .loop .inv .1 ∙ onward-at (c .before .before) .full (c .before .if2 .taken))
+returns-2 c = c .refused2 .ensures ∙ ap refusedAnswer (c .before .refusal-at .ensures) ∙ sym (c .before .before .before .before .before .before .before .before .loop .inv .1 ∙ onward-at (c .before .before .before) .full (c .before .before .if2 .taken))
 
 mul-counters : tie.Need-mul-counters Inv-loop μ-loop
 mul-counters c = search needs
@@ -67,10 +71,13 @@ loop-less c = search needs
 loop-again : tie.Need-loop-again Inv-loop μ-loop
 loop-again c = ((omega arith, omega arith), c .before .before .before .before .before .before .loop .inv .1 ∙ onward-at (c .before) .room (c .if2 .left))
 
+no-refusal-requires : tie.Need-no-refusal-requires Inv-loop μ-loop
+no-refusal-requires c κs = search needs
+
 returns-3 : tie.Need-returns-3 Inv-loop μ-loop
 returns-3 c =
-    let e : c .before .before .before .before .args .stats-count - c .before .loop .count ≡ 0 = omega arith in
-    rw (c .before .loop .inv .1, e, resume-done kit (c .before .loop .count) (c .before .loop .at) (c .before .loop .counters) (now (c .before .before .before .before .args .s)))
+    let e : c .before .before .before .before .before .args .stats-count - c .before .before .loop .count ≡ 0 = omega arith in
+    rw (c .no-refusal .ensures, c .before .before .loop .inv .1, e, resume-done kit (c .before .before .loop .count) (c .before .before .loop .at) (c .before .before .loop .counters) (now (c .before .before .before .before .before .args .s)))
 
 pub read-counters-spec : {M : Type 1} → statement M
 read-counters-spec =
@@ -85,11 +92,13 @@ read-counters-spec =
     refused-requires
     returns
     enum-known-kind
-    refused-at-requires
+    refusal-at-requires
+    refused-requires-2
     returns-2
     mul-counters
     array-set-from-counters
     add-count
     loop-less
     loop-again
+    no-refusal-requires
     returns-3)
