@@ -1,4 +1,5 @@
 // Reading numbers one after another: each read hands back the number and the next place.
+use wire::Need;
 use wire::Refusal;
 ghost use mathlib.Core.Path.{_≡_};
 ghost use Rattle.cursor.specs.Read.{read, asU8, asU16, asU32, asU64};
@@ -33,39 +34,39 @@ impl Cursor {
         ensures { λ r. ⌜ r ≡ asU8 (read 1 (now (s .entry)) (self .at)) ⌝ }
     {
         let at = self.at;
-        if wire::left(s, at) < 1 {
-            return ReadU8::Cut(wire::cut_at(at));
+        match wire::need_at(s.len(), at, 1) {
+            Need::Cut(refusal) => ReadU8::Cut(refusal),
+            Need::Met => ReadU8::Good(numbers::u8_at(s, at), Cursor { at: at + 1 }),
         }
-        ReadU8::Good(numbers::u8_at(s, at), Cursor { at: at + 1 })
     }
 
     pub fn read_u16(self, s: &[u8]) -> ReadU16
         ensures { λ r. ⌜ r ≡ asU16 (read 2 (now (s .entry)) (self .at)) ⌝ }
     {
         let at = self.at;
-        if wire::left(s, at) < 2 {
-            return ReadU16::Cut(wire::cut_at(at));
+        match wire::need_at(s.len(), at, 2) {
+            Need::Cut(refusal) => ReadU16::Cut(refusal),
+            Need::Met => ReadU16::Good(numbers::u16_at(s, at), Cursor { at: at + 2 }),
         }
-        ReadU16::Good(numbers::u16_at(s, at), Cursor { at: at + 2 })
     }
 
     pub fn read_u32(self, s: &[u8]) -> ReadU32
         ensures { λ r. ⌜ r ≡ asU32 (read 4 (now (s .entry)) (self .at)) ⌝ }
     {
         let at = self.at;
-        if wire::left(s, at) < 4 {
-            return ReadU32::Cut(wire::cut_at(at));
+        match wire::need_at(s.len(), at, 4) {
+            Need::Cut(refusal) => ReadU32::Cut(refusal),
+            Need::Met => ReadU32::Good(numbers::u32_at(s, at), Cursor { at: at + 4 }),
         }
-        ReadU32::Good(numbers::u32_at(s, at), Cursor { at: at + 4 })
     }
 
     pub fn read_u64(self, s: &[u8]) -> ReadU64
         ensures { λ r. ⌜ r ≡ asU64 (read 8 (now (s .entry)) (self .at)) ⌝ }
     {
         let at = self.at;
-        if wire::left(s, at) < 8 {
-            return ReadU64::Cut(wire::cut_at(at));
+        match wire::need_at(s.len(), at, 8) {
+            Need::Cut(refusal) => ReadU64::Cut(refusal),
+            Need::Met => ReadU64::Good(numbers::u64_at(s, at), Cursor { at: at + 8 }),
         }
-        ReadU64::Good(numbers::u64_at(s, at), Cursor { at: at + 8 })
     }
 }

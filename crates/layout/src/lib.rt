@@ -1,26 +1,26 @@
 // What fixed layouts share: where a run of fields is cut, and sixteen bytes at a place.
+use wire::Need;
 use wire::Refusal;
 ghost use mathlib.Core.Path.{_≡_};
 ghost use Rattle.layout.specs.Layout.{cutIn, sixteenAt};
 
-// Where a run of fields of these widths, the first at a place, is cut in an input of this length; each Cut of a fixed layout
-// has its place from here.
-pub fn cut_in(widths: &[usize], at: usize, length: usize) -> Refusal
-    ensures { λ r. ⌜ r ≡ cutIn (now (widths .entry)) at length ⌝ }
+// The Cut of a run of fields of these widths, the first at a place, in an input of this length. It is asked for where a field lacks
+// bytes; where none does, the Cut stands at the end of the run.
+pub fn cut_in(widths: &[usize], at: usize, there: usize) -> Refusal
+    ensures { λ r. ⌜ r ≡ cutIn (now (widths .entry)) at there ⌝ }
 {
-    if length < at {
-        return wire::cut_at(at);
-    }
     let mut place = at;
     let mut i = 0;
     while i < widths.len() {
-        if length - place < widths[i] {
-            return wire::cut_at(place);
+        match wire::need_at(there, place, widths[i]) {
+            Need::Cut(refusal) => return refusal,
+            Need::Met => {
+                place += widths[i];
+                i += 1;
+            }
         }
-        place += widths[i];
-        i += 1;
     }
-    wire::cut_at(place)
+    wire::refusal_at(wire::CUT, place)
 }
 
 // The sixteen bytes at a place, as an address has them; all zero where they are not all there.

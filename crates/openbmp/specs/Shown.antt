@@ -4,7 +4,7 @@ use mathlib.Core.List.{_++_}
 use lib.ListN.{replicate}
 use lib.Ieee.{binary64, ofBits}
 use Rattle.wire.specs.Refusal.{noRefusal}
-use Rattle.wire.specs.View.{view}
+use Rattle.wire.specs.View.{view, noView}
 use Rattle.wire.specs.declared.Refusal.{Refusal}
 use Rattle.models.specs.Address.{unspecified}
 use Rattle.times.specs.Time.{timeOf}
@@ -51,9 +51,9 @@ zeroHeader =
       timestamp = ofBits binary64 0;
       seconds = 0;
       microseconds = 0;
-      «admin_id» = view 0 0;
+      «admin_id» = noView;
       «router_ip» = unspecified;
-      «router_group» = view 0 0;
+      «router_group» = noView;
     }
 
 abbrev pub refused : Refusal → OpenBmpAnswer

@@ -4,7 +4,7 @@ use mathlib.Core.Bool.{Bool, true, false}
 use mathlib.Core.List.{List, [], _∷_}
 use lib.ListN.{length, getD}
 use Rattle.wire.specs.Refusal.{noRefusal}
-use Rattle.wire.specs.View.{view, viewed}
+use Rattle.wire.specs.View.{view, noView, viewed}
 use Rattle.wire.specs.declared.Refusal.{Refusal}
 use Rattle.wire.specs.declared.View.{View}
 use Rattle.peer_down_notification.specs.Grammar.{Data, absent, present, Reading}
@@ -68,7 +68,7 @@ isPresent Absent = false
 isPresent (Present v) = true
 
 abbrev pub viewOf : PeerDownData → View
-viewOf Absent = view 0 0
+viewOf Absent = noView
 viewOf (Present v) = v
 
 -- the data that is told, by the bytes that its view shows

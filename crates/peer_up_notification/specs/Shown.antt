@@ -3,7 +3,7 @@ use Prim.Native.Nat.{ℕ, _+_, _-_}
 use mathlib.Core.List.{List, [], _∷_, _++_}
 use lib.ListN.{length, take, replicate, getD}
 use Rattle.wire.specs.Refusal.{noRefusal}
-use Rattle.wire.specs.View.{view}
+use Rattle.wire.specs.View.{view, noView}
 use Rattle.wire.specs.Parts.{shownFrom, endFrom}
 use Rattle.wire.specs.Tlv.{Tlv, sizeOf}
 use Rattle.wire.specs.declared.Refusal.{Refusal}
@@ -106,8 +106,8 @@ zeroFront =
       «local_addr» = unspecified;
       «local_port» = 0;
       «remote_port» = 0;
-      «sent_open» = view 0 0;
-      «received_open» = view 0 0;
+      «sent_open» = noView;
+      «received_open» = noView;
     }
 
 abbrev pub refusedAnswer : Refusal → PeerUpAnswer

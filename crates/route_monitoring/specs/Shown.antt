@@ -2,7 +2,7 @@
 use Prim.Native.Nat.{ℕ, _+_}
 use lib.ListN.{length}
 use Rattle.wire.specs.Refusal.{noRefusal}
-use Rattle.wire.specs.View.{view}
+use Rattle.wire.specs.View.{view, noView}
 use Rattle.wire.specs.declared.Refusal.{Refusal}
 use Rattle.models.specs.declared.AsnLength.{AsnLength}
 use Rattle.peer_type.specs.declared.BmpPeerType.{BmpPeerType}
@@ -33,7 +33,7 @@ warningsIn (RouteMonitoringAnswer.Good m stop word) = word
 warningsIn (RouteMonitoringAnswer.Refused r) = 0
 
 abbrev pub zeroMessage : RouteMonitoring
-zeroMessage = record { «bgp_message» = view 0 0 }
+zeroMessage = record { «bgp_message» = noView }
 
 abbrev pub messageOf : RouteMonitoringAnswer → RouteMonitoring
 messageOf (RouteMonitoringAnswer.Good m stop word) = m

@@ -1,7 +1,7 @@
 -- How a reading is shown in the answer, and what each answer says.
 use Prim.Native.Nat.{ℕ, _+_}
 use Rattle.wire.specs.Refusal.{noRefusal}
-use Rattle.wire.specs.View.{view}
+use Rattle.wire.specs.View.{view, noView}
 use Rattle.wire.specs.declared.Refusal.{Refusal}
 use Rattle.wire.specs.declared.View.{View}
 use Rattle.common_header.specs.Shown as Header
@@ -20,7 +20,7 @@ refusalOf (SplitAnswer.Refused r) = r
 
 abbrev pub messageOf : SplitAnswer → View
 messageOf (SplitAnswer.Message h v) = v
-messageOf (SplitAnswer.Refused r) = view 0 0
+messageOf (SplitAnswer.Refused r) = noView
 
 abbrev pub stopOf : SplitAnswer → ℕ
 stopOf a = messageOf a .place + messageOf a .length

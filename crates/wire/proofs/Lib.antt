@@ -1,6 +1,7 @@
 pub mod Bytes
 pub mod Held
 pub mod Views
+pub mod Needs
 pub mod Tlv
 pub mod Walk
 pub mod Arms

@@ -6,9 +6,10 @@ use Prim.Native.Nat.{ℕ, _-_, _^_, _<_}
 use borrow.Author.Tests.{leb-true, leb-false}
 use lib.ListN.{length, take, drop}
 use Rattle.wire.specs.Bytes.{be, value, Bytes}
-use Rattle.wire.specs.Refusal.{refusal, noRefusal, cutAt}
-use Rattle.wire.specs.View.{inside, viewed}
+use Rattle.wire.specs.Refusal.{refusal, noRefusal, needAt}
+use Rattle.wire.specs.View.{inside, noView, viewed}
 use Rattle.wire.specs.declared.Refusal.{Refusal}
+use Rattle.wire.specs.declared.Need.{Need}
 use Rattle.wire.specs.declared.View.{View}
 use Rattle.wire.proofs.Determined.{determined}
 use Rattle.wire.proofs.Bytes.{value-be, be-value}
@@ -23,9 +24,13 @@ refusal-at-determined number place r q = determined
 pub no-refusal-determined : (r q : Refusal) → r ≡ noRefusal → q ≡ noRefusal → r ≡ q
 no-refusal-determined r q = determined
 
--- Two answers of cut_at for the same place are equal.
-pub cut-at-determined : (place : ℕ) (r q : Refusal) → r ≡ cutAt place → q ≡ cutAt place → r ≡ q
-cut-at-determined place r q = determined
+-- Two answers of no_view are equal.
+pub no-view-determined : (r q : View) → r ≡ noView → q ≡ noView → r ≡ q
+no-view-determined r q = determined
+
+-- Two answers of need_at for the same length, place and count are equal.
+pub need-at-determined : (there at count : ℕ) (r q : Need) → r ≡ needAt there at count → q ≡ needAt there at count → r ≡ q
+need-at-determined there at count r q = determined
 
 -- Two answers of left for the same bytes and place are equal.
 pub left-determined : (s : List ℕ) (at r q : ℕ) → r ≡ length s - at → q ≡ length s - at → r ≡ q

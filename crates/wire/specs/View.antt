@@ -10,6 +10,10 @@ use Rattle.wire.specs.declared.View.{View}
 abbrev pub view : ℕ → ℕ → View
 view p n = record { place = p; length = n }
 
+-- the view that shows nothing
+abbrev pub noView : View
+noView = view 0 0
+
 -- it lies inside a buffer of this length
 abbrev pub inside : ℕ → View → Bool
 inside room v = leb (v .place + v .length) room

@@ -2,8 +2,8 @@
 ghost use mathlib.Core.Path.{_≡_};
 ghost use Prim.Native.Nat.{_-_};
 ghost use lib.ListN.{length};
-ghost use Rattle.wire.specs.Refusal.{refusal, noRefusal, cutAt};
-ghost use Rattle.wire.specs.View.{inside, viewed};
+ghost use Rattle.wire.specs.Refusal.{refusal, noRefusal, needAt};
+ghost use Rattle.wire.specs.View.{inside, noView, viewed};
 
 // The numbers that answers carry (docs/RULES.md, "Numbers").
 pub const GOOD: u8 = 0;
@@ -35,10 +35,19 @@ pub const BAD_FIELD: u8 = 12;
 // The longest slice that is read, and the longest message that is split off or written.
 pub const LIMIT: usize = 1_048_576;
 
+// The fewest bytes of a BGP message: its header (RFC 4271, section 4.1).
+pub const BGP_HEADER: usize = 19;
+
 // A number of the list above and the place of the field at fault; both are 0 in a good answer.
 pub struct Refusal {
     pub number: u8,
     pub place: usize,
+}
+
+// Whether the bytes that a field needs are there, or the Cut that says they are not.
+pub enum Need {
+    Met,
+    Cut(Refusal),
 }
 
 // A place and a length in a buffer.
@@ -47,7 +56,7 @@ pub struct View {
     pub length: usize,
 }
 
-// The refusal by a number of the list above, at a place; a Cut is made by cut_at.
+// The refusal by a number of the list above, at a place; a Cut is made by need_at.
 pub fn refusal_at(number: u8, place: usize) -> Refusal
     ensures { λ r. ⌜ r ≡ refusal number place ⌝ }
 {
@@ -64,29 +73,50 @@ pub fn no_refusal() -> Refusal
     refusal_at(GOOD, 0)
 }
 
-// Every Cut is made here, so that a Cut that tells more changes one place.
-pub fn cut_at(place: usize) -> Refusal
-    ensures { λ r. ⌜ r ≡ cutAt place ⌝ }
+// What stands for a view where there is nothing to show.
+pub fn no_view() -> View
+    ensures { λ r. ⌜ r ≡ noView ⌝ }
 {
-    refusal_at(CUT, place)
+    View {
+        place: 0,
+        length: 0,
+    }
+}
+
+// Whether so many bytes are there at a place of an input of this length. Every Cut is made here, where the bytes are counted, and
+// the readers hand it on.
+pub fn need_at(there: usize, at: usize, count: usize) -> Need
+    ensures { λ r. ⌜ r ≡ needAt there at count ⌝ }
+{
+    if rest(there, at) < count {
+        return Need::Cut(refusal_at(CUT, at));
+    }
+    Need::Met
 }
 
 // How many bytes are left from a place on.
 pub fn left(s: &[u8], at: usize) -> usize
     ensures { λ r. ⌜ r ≡ length (now (s .entry)) - at ⌝ }
 {
-    if at <= s.len() { s.len() - at } else { 0 }
+    rest(s.len(), at)
+}
+
+// How many bytes of an input of this length are left from a place on, none where it lies outside.
+fn rest(there: usize, at: usize) -> usize
+    ensures { λ r. ⌜ r ≡ there - at ⌝ }
+{
+    if at <= there { there - at } else { 0 }
 }
 
 impl View {
     // Whether the view lies inside a buffer of this length; the sum of place and length is never formed.
-    pub fn is_inside(self, length: usize) -> bool
-        ensures { λ r. ⌜ r ≡ inside length self ⌝ }
+    pub fn is_inside(self, there: usize) -> bool
+        ensures { λ r. ⌜ r ≡ inside there self ⌝ }
     {
-        if length < self.length {
+        if there < self.length {
             return false;
         }
-        if length - self.length < self.place {
+        if there - self.length < self.place {
             return false;
         }
         true

@@ -2,42 +2,45 @@ use borrow.Author.Needs.{needs}
 use native.Mathlib.Omega.{arith}
 use mathlib.Core.Path.{_≡_, sym, ap, _∙_}
 use Prim.Native.Nat.{_-_, _≤_}
-use lib.ListN.{length, drop}
+use lib.ListN.{length, drop, getD}
 use Rattle.layout.specs.Layout.{firstCut}
-use Rattle.layout.proofs.Cuts.{outside, cut, whole, ended}
+use Rattle.layout.proofs.Cuts.{cut, whole, ended}
 use Rattle.wire.specs.Refusal.{cutAt}
+use Rattle.wire.proofs.Needs.{was-met, was-cut}
 use Rattle.layout.proofs.cut_in.Statement.{statement}
 use Rattle.layout.proofs.cut_in.Tie as tie
 
 abbrev Inv-loop : tie.InvT-loop
-Inv-loop widths at n place₀ i₀ place i = (i ≤ length widths) × (place ≤ n) × (firstCut widths at n ≡ firstCut (drop i widths) place n)
+Inv-loop widths at n place₀ i₀ place i =
+    (i ≤ length widths) × (at ≤ place) × (place - at ≤ n - at) × (firstCut widths at n ≡ firstCut (drop i widths) place n)
 
 abbrev μ-loop : tie.MeasureT-loop
 μ-loop widths at n place₀ i₀ place i = length widths - i
 
-cut-at-requires : tie.Need-cut-at-requires Inv-loop μ-loop
-cut-at-requires c κs = search needs
-
-returns : tie.Need-returns Inv-loop μ-loop
-returns c = c .cut-at .ensures ∙ sym (outside (c .before .before .before .args .widths .now) (c .before .before .before .args .at) (c .before .before .before .args .length) (c .before .if1 .taken))
-
 loop-holds : tie.Need-loop-holds Inv-loop μ-loop
 loop-holds c = search needs
 
-sub-if2 : tie.Need-sub-if2 Inv-loop μ-loop
-sub-if2 c = search needs
+mul-need-at : tie.Need-mul-need-at Inv-loop μ-loop
+mul-need-at c = search needs
 
-mul-if2 : tie.Need-mul-if2 Inv-loop μ-loop
-mul-if2 c = search needs
+shared-slice-read-need-at : tie.Need-shared-slice-read-need-at Inv-loop μ-loop
+shared-slice-read-need-at c = search needs
 
-shared-slice-read-if2 : tie.Need-shared-slice-read-if2 Inv-loop μ-loop
-shared-slice-read-if2 c = search needs
+need-at-requires : tie.Need-need-at-requires Inv-loop μ-loop
+need-at-requires c κs = search needs
 
-cut-at-requires-2 : tie.Need-cut-at-requires-2 Inv-loop μ-loop
-cut-at-requires-2 c κs = search needs
+enum-known-refusal : tie.Need-enum-known-refusal Inv-loop μ-loop
+enum-known-refusal c = search needs
 
-returns-2 : tie.Need-returns-2 Inv-loop μ-loop
-returns-2 c = c .cut-at2 .ensures ∙ ap cutAt (sym (c .before .before .before .before .loop .inv .2 ∙ cut (c .before .before .before .before .before .before .before .args .widths .now) (c .before .before .before .before .loop .place) (c .before .before .before .before .loop .i) (c .before .before .before .before .before .before .before .args .length) (omega arith) (omega arith)))
+returns : tie.Need-returns Inv-loop μ-loop
+returns c =
+    let a = c .before .before .before .before .before .before .before .before .args in
+    let k = c .before .before .before .before .before .before .loop in
+    let lacked = was-cut (a .there) (k .place) (getD (a .widths .now) (k .i) 0) (c .before .refusal .given .1) (c .before .before .before .need-at .ensures) in
+    lacked .cut-is ∙ ap cutAt (sym (k .inv .3 ∙ cut (a .widths .now) (k .place) (k .i) (a .there) (omega arith) (lacked .few)))
+
+enum-told : tie.Need-enum-told Inv-loop μ-loop
+enum-told c = search needs
 
 mul-place : tie.Need-mul-place Inv-loop μ-loop
 mul-place c = search needs
@@ -46,7 +49,11 @@ shared-slice-read-place : tie.Need-shared-slice-read-place Inv-loop μ-loop
 shared-slice-read-place c = search needs
 
 add-place : tie.Need-add-place Inv-loop μ-loop
-add-place c = search needs
+add-place c =
+    let a = c .before .before .before .before .before .before .before .before .args in
+    let k = c .before .before .before .before .before .before .loop in
+    let met = was-met (a .there) (k .place) (getD (a .widths .now) (k .i) 0) (c .before .enum-told .given .1) (c .before .before .before .need-at .ensures) in
+    search needs
 
 add-i : tie.Need-add-i Inv-loop μ-loop
 add-i c = search needs
@@ -55,13 +62,20 @@ loop-less : tie.Need-loop-less Inv-loop μ-loop
 loop-less c = search needs
 
 loop-again : tie.Need-loop-again Inv-loop μ-loop
-loop-again c = (search needs, search needs, c .before .before .before .before .loop .inv .2 ∙ whole (c .before .before .before .before .before .before .before .args .widths .now) (c .before .before .before .before .loop .place) (c .before .before .before .before .loop .i) (c .before .before .before .before .before .before .before .args .length) (omega arith) (omega arith))
+loop-again c =
+    let a = c .before .before .before .before .before .before .before .before .args in
+    let k = c .before .before .before .before .before .before .loop in
+    let met = was-met (a .there) (k .place) (getD (a .widths .now) (k .i) 0) (c .before .enum-told .given .1) (c .before .before .before .need-at .ensures) in
+    (search needs, omega arith, omega arith, k .inv .3 ∙ whole (a .widths .now) (k .place) (k .i) (a .there) (omega arith) met)
 
-cut-at-requires-3 : tie.Need-cut-at-requires-3 Inv-loop μ-loop
-cut-at-requires-3 c κs = search needs
+refusal-at-requires : tie.Need-refusal-at-requires Inv-loop μ-loop
+refusal-at-requires c κs = search needs
 
-returns-3 : tie.Need-returns-3 Inv-loop μ-loop
-returns-3 c = c .cut-at3 .ensures ∙ ap cutAt (sym (c .before .before .loop .inv .2 ∙ ended (c .before .before .before .before .before .args .widths .now) (c .before .before .loop .place) (c .before .before .loop .i) (c .before .before .before .before .before .args .length) (omega arith)))
+returns-2 : tie.Need-returns-2 Inv-loop μ-loop
+returns-2 c =
+    let a = c .before .before .before .before .args in
+    let k = c .before .before .loop in
+    c .refusal-at .ensures ∙ ap cutAt (sym (k .inv .3 ∙ ended (a .widths .now) (k .place) (k .i) (a .there) (omega arith)))
 
 pub cut-in-spec : {M : Type 1} → statement M
 cut-in-spec =
@@ -69,19 +83,18 @@ cut-in-spec =
     (tie.spec
     Inv-loop
     μ-loop
-    cut-at-requires
-    returns
     loop-holds
-    sub-if2
-    mul-if2
-    shared-slice-read-if2
-    cut-at-requires-2
-    returns-2
+    mul-need-at
+    shared-slice-read-need-at
+    need-at-requires
+    enum-known-refusal
+    returns
+    enum-told
     mul-place
     shared-slice-read-place
     add-place
     add-i
     loop-less
     loop-again
-    cut-at-requires-3
-    returns-3)
+    refusal-at-requires
+    returns-2)
