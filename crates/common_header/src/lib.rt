@@ -19,6 +19,12 @@ pub enum BmpMsgType {
     RouteMirroringMessage,
 }
 
+// The version of BMP that RFC 7854 describes, and the only one that is read.
+pub const VERSION: u8 = 3;
+
+// How many bytes the header takes.
+pub const COMMON_HEADER: usize = 6;
+
 pub struct BmpCommonHeader {
     pub version: u8,
     pub msg_len: u32,
@@ -37,6 +43,7 @@ enum CommonFields {
     Refused(Refusal),
 }
 
+// Reads the header at the front of the bytes; whether the rest of the message is there is not asked.
 pub fn parse_bmp_common_header(s: &[u8]) -> CommonHeaderAnswer
     ensures { λ r. ⌜ r ≡ readCommonHeader (now (s .entry)) ⌝ }
 {
@@ -53,19 +60,21 @@ fn read_fields(s: &[u8]) -> CommonFields
     ensures { λ r. ⌜ r ≡ readFields (now (s .entry)) ⌝ }
 {
     let start = Cursor { at: 0 };
-    let ReadU8::Good(version, after_version) = start.read_u8(s) else {
-        return CommonFields::Refused(wire::cut_at(0));
-    };
-    if version != 3 {
-        return CommonFields::Refused(wire::refusal_at(wire::BAD_VERSION, 0));
+    match start.read_u8(s) {
+        ReadU8::Cut(refusal) => CommonFields::Refused(refusal),
+        ReadU8::Good(version, after_version) => {
+            if version != VERSION {
+                return CommonFields::Refused(wire::refusal_at(wire::BAD_VERSION, 0));
+            }
+            match after_version.read_u32(s) {
+                ReadU32::Cut(refusal) => CommonFields::Refused(refusal),
+                ReadU32::Good(msg_len, after_length) => match after_length.read_u8(s) {
+                    ReadU8::Cut(refusal) => CommonFields::Refused(refusal),
+                    ReadU8::Good(kind, _) => CommonFields::Whole(msg_len, kind),
+                },
+            }
+        }
     }
-    let ReadU32::Good(msg_len, after_length) = after_version.read_u32(s) else {
-        return CommonFields::Refused(wire::cut_at(1));
-    };
-    let ReadU8::Good(kind, _) = after_length.read_u8(s) else {
-        return CommonFields::Refused(wire::cut_at(5));
-    };
-    CommonFields::Whole(msg_len, kind)
 }
 
 fn judge(msg_len: u32, kind: u8) -> CommonHeaderAnswer
@@ -75,11 +84,11 @@ fn judge(msg_len: u32, kind: u8) -> CommonHeaderAnswer
         return CommonHeaderAnswer::Refused(wire::refusal_at(wire::UNKNOWN_KIND, 5));
     }
     let header = BmpCommonHeader {
-        version: 3,
+        version: VERSION,
         msg_len: msg_len,
         msg_type: type_of(kind),
     };
-    CommonHeaderAnswer::Good(header, 6)
+    CommonHeaderAnswer::Good(header, COMMON_HEADER)
 }
 
 fn type_of(kind: u8) -> BmpMsgType

@@ -17,6 +17,7 @@ use Rattle.cursor.specs.declared.ReadU16.{ReadU16}
 use Rattle.cursor.specs.declared.ReadU32.{ReadU32}
 use Rattle.cursor.specs.declared.ReadU64.{ReadU64}
 use Rattle.wire.proofs.Bytes.{num-drop, number-is}
+use Rattle.wire.proofs.Needs.{Lacked}
 
 -- ---- both answers of a read, as the cursor's methods come to them
 module _ (w : ℕ) (s : List ℕ) (at : ℕ) where
@@ -40,12 +41,13 @@ was-got w s at {x} {n} {c} e f = go (has w s at) refl (sym e ∙ f)
     go true h q = record { left = leb-true w (length s - at) h; number = cc; next = cc }
     go false h q = let z : _≡_ {A = ℕ} 0 1 = cc in absurd (omega arith)
 
-pub was-cut : (w : ℕ) (s : List ℕ) (at : ℕ) {x : Read} {r : Refusal} → x ≡ cut r → x ≡ read w s at → length s - at < w
+-- or it lacks bytes, and its Cut is at its place
+pub was-cut : (w : ℕ) (s : List ℕ) (at : ℕ) {x : Read} {r : Refusal} → x ≡ cut r → x ≡ read w s at → Lacked (length s) at w r
 was-cut w s at {x} {r} e f = go (has w s at) refl (sym e ∙ f)
   where
-    go : (b : Bool) → has w s at ≡ b → cut r ≡ pick b (got (numAt w s at) (cursor (at + w))) (cut (cutAt at)) → length s - at < w
+    go : (b : Bool) → has w s at ≡ b → cut r ≡ pick b (got (numAt w s at) (cursor (at + w))) (cut (cutAt at)) → Lacked (length s) at w r
     go true h q = let z : _≡_ {A = ℕ} 0 1 = cc in absurd (omega arith)
-    go false h q = leb-false w (length s - at) h
+    go false h q = record { few = leb-false w (length s - at) h; cut-is = cc }
 
 -- what was read j past a place is the number there of the part from that place on
 pub was-in : {w : ℕ} {s : List ℕ} {k n : ℕ} {c : Cursor} (at j : ℕ) → k ≡ at + j → Was w s k n c → numAt w (drop at s) j ≡ n

@@ -9,8 +9,9 @@ use Rattle.wire.proofs.Determined.{determined}
 use Rattle.wire.specs.Refuses.{Refuses}
 use Rattle.wire.specs.Exactly.{Sound, Complete, Told, Unique}
 use Rattle.peer_down_notification.specs.Grammar.{Reading, join, grammar}
-use Rattle.peer_down_notification.specs.Shown.{shownData, shown, dataOf}
+use Rattle.peer_down_notification.specs.Shown.{kindOf, shownData, shown, dataOf}
 use Rattle.peer_down_notification.specs.Read.{hasData, partsOf, readPeerDown, reader}
+use Rattle.peer_down_notification.specs.declared.PeerDownReason.{PeerDownReason}
 use Rattle.peer_down_notification.specs.declared.PeerDownAnswer.{PeerDownAnswer}
 use Rattle.peer_down_notification.proofs.Laws.{known-of, reason-there, parts-join, Accepted, parts-good, accepted, shows-parts, data-shown}
 use Rattle.peer_down_notification.proofs.Told as ToldProofs
@@ -52,8 +53,11 @@ pub views : (r : Reading) → dataOf (join r) (shownData (r .data-part)) ≡ r .
 views r = data-shown (r .reason) (r .data-part) (r .tail)
 
 -- ---- any two answers that the contracts allow are equal
-pub has-data-determined : (kind rest : ℕ) (a b : Bool) → a ≡ hasData kind rest → b ≡ hasData kind rest → a ≡ b
-has-data-determined kind rest a b = determined
+pub number-determined : (x : PeerDownReason) (a b : ℕ) → a ≡ kindOf x → b ≡ kindOf x → a ≡ b
+number-determined x a b = determined
+
+pub has-data-determined : (x : PeerDownReason) (rest : ℕ) (a b : Bool) → a ≡ hasData (kindOf x) rest → b ≡ hasData (kindOf x) rest → a ≡ b
+has-data-determined x rest a b = determined
 
 pub parse-determined : (s : List ℕ) (a b : PeerDownAnswer) → a ≡ readPeerDown s → b ≡ readPeerDown s → a ≡ b
 parse-determined s a b = determined

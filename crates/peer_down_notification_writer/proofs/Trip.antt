@@ -8,7 +8,7 @@ use borrow.Author.Tests.{leb-true}
 use lib.ListN.{length, length-append}
 use Rattle.wire.specs.Number as Number
 use Rattle.wire.specs.Bytes.{pick, be, Bytes, none}
-use Rattle.wire.specs.View.{view, inside, viewed}
+use Rattle.wire.specs.View.{noView, inside, viewed}
 use Rattle.wire.specs.declared.View.{View}
 use Rattle.wire.proofs.Views.{inside-is, viewed-inside, length-part, bytes-viewed}
 use Rattle.peer_down_notification.specs.Grammar.{Data, absent, present, dataBytes, Follows, Good}
@@ -42,7 +42,7 @@ pub fine-of : (k : ℕ) (d : PeerDownData) (room : ℕ) → partsWritable k (isP
 unfolding partsWritable
 fine-of k Absent room e = go (hasData k 0) refl e
   where
-    go : (b : Bool) → hasData k 0 ≡ b → pick b false (inside room (view 0 0)) ≡ true → Fine k Absent room
+    go : (b : Bool) → hasData k 0 ≡ b → pick b false (inside room (noView)) ≡ true → Fine k Absent room
     go true h q = let z : _≡_ {A = ℕ} 0 1 = cc in absurd (omega arith)
     go false h q = record { given = h; within = omega arith }
 fine-of k (Present v) room e = go (hasData k (v .length)) refl e
@@ -53,7 +53,7 @@ fine-of k (Present v) room e = go (hasData k (v .length)) refl e
 
 pub fine-from : (k : ℕ) (d : PeerDownData) (room : ℕ) → Fine k d room → partsWritable k (isPresent d) (viewOf d) room ≡ true
 unfolding partsWritable
-fine-from k Absent room f = rw (f .given) (inside-is room (view 0 0) (f .within))
+fine-from k Absent room f = rw (f .given) (inside-is room (noView) (f .within))
 fine-from k (Present v) room f = rw (f .given) (inside-is room v (f .within))
 
 -- ---- a writable notification's reading is good

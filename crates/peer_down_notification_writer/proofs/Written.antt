@@ -5,7 +5,7 @@ use Prim.Native.Nat.{ℕ, _+_}
 use native.Mathlib.Omega.{arith}
 use lib.ListN.{length}
 use Rattle.wire.specs.Bytes.{be}
-use Rattle.wire.specs.View.{view, viewed}
+use Rattle.wire.specs.View.{noView, viewed}
 use Rattle.wire.proofs.Views.{viewed-inside}
 use Rattle.peer_down_notification.specs.Grammar.{dataBytes}
 use Rattle.peer_down_notification.specs.Shown.{kindOf, viewOf, dataOf}
@@ -15,7 +15,7 @@ use Rattle.peer_down_notification.specs.declared.PeerDownData.the-variants.{Abs
 use Rattle.peer_down_notification.specs.declared.PeerDownNotification.{PeerDownNotification}
 
 pub data-viewed : (b : List ℕ) (d : PeerDownData) → viewed b (viewOf d) ≡ dataBytes (dataOf b d)
-data-viewed b Absent = viewed-inside b (view 0 0) (omega arith)
+data-viewed b Absent = viewed-inside b (noView) (omega arith)
 data-viewed b (Present v) = refl
 
 -- the reason, and the bytes that the view shows

@@ -10,6 +10,7 @@ ghost use Rattle.writing.specs.Write.{writeAnswer, written};
 ghost use Rattle.peer_down_notification.specs.Shown.{kindOf, isPresent, viewOf};
 ghost use Rattle.peer_down_notification_writer.specs.Write.{partsWritable, writable, bytesOf};
 
+// Writes the notification, whose view points into the buffer, to the front of the output.
 pub fn write_peer_down_notification(
     notification: PeerDownNotification,
     buffer: &[u8],
@@ -20,9 +21,8 @@ pub fn write_peer_down_notification(
 {
     let reason = notification.reason;
     let data = notification.data;
-    let kind = kind_of(reason);
     let view = view_of(data);
-    if !is_writable(kind, is_present(data), view, buffer.len()) {
+    if !is_writable(reason, is_present(data), view, buffer.len()) {
         return writing::write_answer(false, 0, out.len());
     }
     let part = view.part(buffer);
@@ -30,15 +30,15 @@ pub fn write_peer_down_notification(
     let WriteAnswer::Written(_) = answer else {
         return answer;
     };
-    put_numbers::put_u8(out, 0, kind);
+    put_numbers::put_u8(out, 0, reason.number());
     writing::put_bytes(out, 1, part);
     answer
 }
 
-fn is_writable(kind: u8, present: bool, view: View, room: usize) -> bool
-    ensures { λ r. ⌜ r ≡ partsWritable kind present view room ⌝ }
+fn is_writable(reason: PeerDownReason, present: bool, view: View, room: usize) -> bool
+    ensures { λ r. ⌜ r ≡ partsWritable (kindOf reason) present view room ⌝ }
 {
-    let given = peer_down_notification::has_data(kind, view.length);
+    let given = reason.has_data(view.length);
     if present {
         if given {
             return view.is_inside(room);
@@ -65,24 +65,7 @@ fn view_of(data: PeerDownData) -> View
     ensures { λ r. ⌜ r ≡ viewOf «data» ⌝ }
 {
     match data {
-        PeerDownData::Absent => View {
-            place: 0,
-            length: 0,
-        },
+        PeerDownData::Absent => wire::no_view(),
         PeerDownData::Present(view) => view,
-    }
-}
-
-fn kind_of(reason: PeerDownReason) -> u8
-    ensures { λ r. ⌜ r ≡ kindOf reason ⌝ }
-{
-    match reason {
-        PeerDownReason::Reserved => 0,
-        PeerDownReason::LocalSystemClosedNotificationPduFollows => 1,
-        PeerDownReason::LocalSystemClosedFsmEvenFollows => 2,
-        PeerDownReason::RemoteSystemClosedNotificationPduFollows => 3,
-        PeerDownReason::RemoteSystemsClosedNoData => 4,
-        PeerDownReason::PeerDeConfigured => 5,
-        PeerDownReason::LocalSystemClosedTlvDataFollows => 6,
     }
 }

@@ -13,7 +13,6 @@ use peer::PeerTime;
 use peer_down_notification::PeerDownAnswer;
 use peer_down_notification::PeerDownData;
 use peer_down_notification::PeerDownNotification;
-use peer_down_notification::PeerDownReason;
 use peer_up_notification::PeerUpNotification;
 use route_monitoring::RouteMonitoringAnswer;
 use splitter::SplitAnswer;
@@ -182,7 +181,7 @@ fn read_peer_down(s: &[u8]) -> Shown {
 fn peer_down(stop: u64, notification: PeerDownNotification) -> Shown {
     let reason = notification.reason;
     let data = notification.data;
-    let number = down_reason(reason);
+    let number = reason.number() as u64;
     match data {
         PeerDownData::Absent => forms::of_five(kinds::PEER_DOWN, 0, stop, stop, number, 0, 0),
         PeerDownData::Present(view) => {
@@ -196,18 +195,6 @@ fn peer_down(stop: u64, notification: PeerDownNotification) -> Shown {
                 view.length as u64,
             )
         }
-    }
-}
-
-fn down_reason(reason: PeerDownReason) -> u64 {
-    match reason {
-        PeerDownReason::Reserved => 0,
-        PeerDownReason::LocalSystemClosedNotificationPduFollows => 1,
-        PeerDownReason::LocalSystemClosedFsmEvenFollows => 2,
-        PeerDownReason::RemoteSystemClosedNotificationPduFollows => 3,
-        PeerDownReason::RemoteSystemsClosedNoData => 4,
-        PeerDownReason::PeerDeConfigured => 5,
-        PeerDownReason::LocalSystemClosedTlvDataFollows => 6,
     }
 }
 

@@ -8,7 +8,7 @@ use mathlib.Core.List.{_++_}
 use mathlib.Core.Bool.{true}
 use lib.ListN.{length, length-append}
 use lib.Seq.{sets}
-use Rattle.peer_down_notification.specs.Shown.{viewOf}
+use Rattle.peer_down_notification.specs.Shown.{kindOf, viewOf}
 use Rattle.peer_down_notification_writer.specs.Write.{bytesOf, partsWritable, writable}
 use Rattle.peer_down_notification_writer.proofs.Written.{bytes-are, bytes-long}
 use Rattle.wire.specs.Bytes.{be}
@@ -20,25 +20,22 @@ use Rattle.writing.proofs.Sets.{put-fits, put-then}
 use Rattle.peer_down_notification_writer.proofs.write_peer_down_notification.Statement.{statement}
 use Rattle.peer_down_notification_writer.proofs.write_peer_down_notification.Tie as tie
 
-ok-is : (c : tie.After-is-writable) → c .is-writable .result ≡ writable (c .before .before .before .before .before .before .args .notification) (length (now (c .before .before .before .before .before .before .args .buffer)))
+ok-is : (c : tie.After-is-writable) → c .is-writable .result ≡ writable (c .before .before .before .before .before .args .notification) (length (now (c .before .before .before .before .before .args .buffer)))
 ok-is c =
     c .is-writable .ensures
-    ∙ (λ i. partsWritable (c .before .before .before .kind-of .ensures i) (c .before .is-present .ensures i) (c .before .before .view-of .ensures i) (length (now (c .before .before .before .before .before .before .args .buffer))))
+    ∙ (λ i. partsWritable (kindOf (c .before .before .before .before .before .args .notification .reason)) (c .before .is-present .ensures i) (c .before .before .view-of .ensures i) (length (now (c .before .before .before .before .before .args .buffer))))
 
-is-ok : (c : tie.Else1) → writable (c .before .before .before .before .before .before .before .args .notification) (length (now (c .before .before .before .before .before .before .before .args .buffer))) ≡ true
+is-ok : (c : tie.Else1) → writable (c .before .before .before .before .before .before .args .notification) (length (now (c .before .before .before .before .before .before .args .buffer))) ≡ true
 is-ok c = sym (ok-is (c .before)) ∙ not-false (c .before .is-writable .result) (c .if1 .left)
 
-part-is : (c : tie.After-part) → now (c .part .result) ≡ viewed (now (c .before .before .before .before .before .before .before .before .args .buffer)) (viewOf (c .before .before .before .before .before .before .before .before .args .notification .«data»))
-part-is c = c .part .ensures ∙ ap (viewed (now (c .before .before .before .before .before .before .before .before .args .buffer))) (c .before .before .before .before .view-of .ensures)
+part-is : (c : tie.After-part) → now (c .part .result) ≡ viewed (now (c .before .before .before .before .before .before .before .args .buffer)) (viewOf (c .before .before .before .before .before .before .before .args .notification .«data»))
+part-is c = c .part .ensures ∙ ap (viewed (now (c .before .before .before .before .before .before .before .args .buffer))) (c .before .before .before .before .view-of .ensures)
 
-long : (c : tie.After-part) → writable (c .before .before .before .before .before .before .before .before .args .notification) (length (now (c .before .before .before .before .before .before .before .before .args .buffer))) ≡ true → length (bytesOf (c .before .before .before .before .before .before .before .before .args .notification) (now (c .before .before .before .before .before .before .before .before .args .buffer))) ≡ 1 + length (now (c .part .result))
-long c w = bytes-long (c .before .before .before .before .before .before .before .before .args .notification) (now (c .before .before .before .before .before .before .before .before .args .buffer)) (now (c .part .result)) (part-is c)
+long : (c : tie.After-part) → writable (c .before .before .before .before .before .before .before .args .notification) (length (now (c .before .before .before .before .before .before .before .args .buffer))) ≡ true → length (bytesOf (c .before .before .before .before .before .before .before .args .notification) (now (c .before .before .before .before .before .before .before .args .buffer))) ≡ 1 + length (now (c .part .result))
+long c w = bytes-long (c .before .before .before .before .before .before .before .args .notification) (now (c .before .before .before .before .before .before .before .args .buffer)) (now (c .part .result)) (part-is c)
 
-asked : (c : tie.After-write-answer2) → c .write-answer2 .result ≡ writeAnswer (writable (c .before .before .before .before .before .before .before .before .before .args .notification) (length (now (c .before .before .before .before .before .before .before .before .before .args .buffer)))) (1 + length (now (c .before .part .result))) (length (now (c .before .before .before .before .before .before .before .before .before .args .out)))
+asked : (c : tie.After-write-answer2) → c .write-answer2 .result ≡ writeAnswer (writable (c .before .before .before .before .before .before .before .before .args .notification) (length (now (c .before .before .before .before .before .before .before .before .args .buffer)))) (1 + length (now (c .before .part .result))) (length (now (c .before .before .before .before .before .before .before .before .args .out)))
 asked c = c .write-answer2 .ensures ∙ rw (is-ok (c .before .before))
-
-kind-of-requires : tie.Need-kind-of-requires
-kind-of-requires c κs = search needs
 
 view-of-requires : tie.Need-view-of-requires
 view-of-requires c κs = search needs
@@ -54,9 +51,9 @@ write-answer-requires c κs = search needs
 
 returns : tie.Need-returns
 returns c =
-    let m = c .before .before .before .before .before .before .before .before .args .notification in
-    let b = now (c .before .before .before .before .before .before .before .before .args .buffer) in
-    refused-so _ (bytesOf m b) (now (c .before .before .before .before .before .before .before .before .args .out)) (sym (ok-is (c .before .before)) ∙ not-true (c .before .before .is-writable .result) (c .before .if1 .taken)) _ (c .write-answer .ensures)
+    let m = c .before .before .before .before .before .before .before .args .notification in
+    let b = now (c .before .before .before .before .before .before .before .args .buffer) in
+    refused-so _ (bytesOf m b) (now (c .before .before .before .before .before .before .before .args .out)) (sym (ok-is (c .before .before)) ∙ not-true (c .before .before .is-writable .result) (c .before .if1 .taken)) _ (c .write-answer .ensures)
 
 part-requires : tie.Need-part-requires
 part-requires c κs = search needs
@@ -75,9 +72,15 @@ enum-told-2 c = search needs
 
 returns-2 : tie.Need-returns-2
 returns-2 c =
-    let m = c .before .before .before .before .before .before .before .before .before .before .before .args .notification in
-    let b = now (c .before .before .before .before .before .before .before .before .before .before .before .args .buffer) in
-    (answered _ (bytesOf m b) (now (c .before .before .before .before .before .before .before .before .before .before .before .args .out)) _ (long (c .before .before .before)) _ (asked (c .before .before)), left-alone _ (bytesOf m b) (now (c .before .before .before .before .before .before .before .before .before .before .before .args .out)) _ (long (c .before .before .before)) _ (asked (c .before .before)) _ (c .enum-told2 .given .1))
+    let m = c .before .before .before .before .before .before .before .before .before .before .args .notification in
+    let b = now (c .before .before .before .before .before .before .before .before .before .before .args .buffer) in
+    let out = now (c .before .before .before .before .before .before .before .before .before .before .args .out) in
+    let n = long (c .before .before .before) in
+    let a = asked (c .before .before) in
+    (answered _ (bytesOf m b) out _ n _ a, left-alone _ (bytesOf m b) out _ n _ a _ (c .enum-told2 .given .1))
+
+number-requires : tie.Need-number-requires
+number-requires c κs = search needs
 
 put-u8-requires : tie.Need-put-u8-requires
 put-u8-requires c κs = search needs
@@ -93,21 +96,22 @@ returns-3 c =
     let m = c .before .before .before .before .before .before .before .before .before .before .before .before .before .before .before .before .before .before .before .args .notification in
     let b = now (c .before .before .before .before .before .before .before .before .before .before .before .before .before .before .before .before .before .before .before .args .buffer) in
     let out = now (c .before .before .before .before .before .before .before .before .before .before .before .before .before .before .before .before .before .before .before .args .out) in
-    let part = now (c .before .before .before .before .before .before .before .before .before .before .before .part .result) in
-    let kind = c .before .before .before .before .before .before .before .before .before .before .before .before .before .before .before .before .kind-of .result in
-    let w = wrote _ (bytesOf m b) out _ (long (c .before .before .before .before .before .before .before .before .before .before .before)) _ (asked (c .before .before .before .before .before .before .before .before .before .before)) _ (c .before .before .before .before .before .before .before .before .enum-told .given .1) in
+    let part = now (c .before .before .before .before .before .before .before .before .before .before .before .before .part .result) in
+    let kind = c .before .before .before .before .before .before .before .number .result in
+    let n = long (c .before .before .before .before .before .before .before .before .before .before .before .before) in
+    let a = asked (c .before .before .before .before .before .before .before .before .before .before .before) in
+    let w = wrote _ (bytesOf m b) out _ n _ a _ (c .before .before .before .before .before .before .before .before .before .enum-told .given .1) in
     let one : length (be 1 kind) ≡ 1 = length-be 1 kind in
-    let room : 1 + length part ≤ length out = subst (λ (k : ℕ). k ≤ length out) (long (c .before .before .before .before .before .before .before .before .before .before .before) (w .is-ok)) (w .fits) in
-    let both : be 1 kind ++ part ≡ bytesOf m b = (λ i. be 1 (c .before .before .before .before .before .before .before .before .before .before .before .before .before .before .before .before .kind-of .ensures i) ++ part-is (c .before .before .before .before .before .before .before .before .before .before .before) i) ∙ bytes-are m b in
+    let room : 1 + length part ≤ length out = subst (λ (k : ℕ). k ≤ length out) (n (w .is-ok)) (w .fits) in
+    let both : be 1 kind ++ part ≡ bytesOf m b = (λ i. be 1 (c .before .before .before .before .before .before .before .number .ensures i) ++ part-is (c .before .before .before .before .before .before .before .before .before .before .before .before) i) ∙ bytes-are m b in
     let all : length (be 1 kind ++ part) ≤ length out - 0 = rw (length-append (be 1 kind) part, one) (omega arith) in
     let put = put-then out _ _ 0 1 (be 1 kind) part (rw one (omega arith)) (c .before .before .before .before .before .before .put-u8 .ensures) (omega (arith, one)) (c .before .before .put-bytes .ensures) ∙ put-fits out 0 (be 1 kind ++ part) all ∙ ap (sets out 0) both in
-    (answered _ (bytesOf m b) out _ (long (c .before .before .before .before .before .before .before .before .before .before .before)) _ (asked (c .before .before .before .before .before .before .before .before .before .before)), put-there _ (bytesOf m b) out _ (long (c .before .before .before .before .before .before .before .before .before .before .before)) _ (asked (c .before .before .before .before .before .before .before .before .before .before)) _ (c .before .before .before .before .before .before .before .before .enum-told .given .1) _ put)
+    (answered _ (bytesOf m b) out _ n _ a, put-there _ (bytesOf m b) out _ n _ a _ (c .before .before .before .before .before .before .before .before .before .enum-told .given .1) _ put)
 
 pub write-peer-down-notification-spec : {M : Type 1} → statement M
 write-peer-down-notification-spec =
     tie.close
     (tie.spec
-    kind-of-requires
     view-of-requires
     is-present-requires
     is-writable-requires
@@ -119,6 +123,7 @@ write-peer-down-notification-spec =
     enum-told
     enum-told-2
     returns-2
+    number-requires
     put-u8-requires
     put-bytes-requires
     same-length

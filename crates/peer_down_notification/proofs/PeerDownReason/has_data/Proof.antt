@@ -1,7 +1,8 @@
 use borrow.Author.Needs.{needs}
 use Rattle.peer_down_notification.specs.Shown.{kindOf}
-use Rattle.peer_down_notification_writer.proofs.kind_of.Statement.{statement}
-use Rattle.peer_down_notification_writer.proofs.kind_of.Tie as tie
+use Rattle.peer_down_notification.specs.Read.{hasData}
+use Rattle.peer_down_notification.proofs.PeerDownReason.has_data.Statement.{statement}
+use Rattle.peer_down_notification.proofs.PeerDownReason.has_data.Tie as tie
 
 enum-told : tie.Need-enum-told
 enum-told c = search needs
@@ -25,35 +26,35 @@ enum-told-7 : tie.Need-enum-told-7
 enum-told-7 c = search needs
 
 returns : tie.Need-returns
-unfolding kindOf
+unfolding kindOf hasData
 returns c = rw (c .enum-told .given .1)
 
 returns-2 : tie.Need-returns-2
-unfolding kindOf
+unfolding kindOf hasData
 returns-2 c = rw (c .enum-told2 .given .1)
 
 returns-3 : tie.Need-returns-3
-unfolding kindOf
+unfolding kindOf hasData
 returns-3 c = rw (c .enum-told3 .given .1)
 
 returns-4 : tie.Need-returns-4
-unfolding kindOf
+unfolding kindOf hasData
 returns-4 c = rw (c .enum-told4 .given .1)
 
 returns-5 : tie.Need-returns-5
-unfolding kindOf
+unfolding kindOf hasData
 returns-5 c = rw (c .enum-told5 .given .1)
 
 returns-6 : tie.Need-returns-6
-unfolding kindOf
+unfolding kindOf hasData
 returns-6 c = rw (c .enum-told6 .given .1)
 
 returns-7 : tie.Need-returns-7
-unfolding kindOf
+unfolding kindOf hasData
 returns-7 c = rw (c .enum-told7 .given .1)
 
-pub kind-of-spec : {M : Type 1} → statement M
-kind-of-spec =
+pub has-data-spec : {M : Type 1} → statement M
+has-data-spec =
     tie.close
     (tie.spec
     enum-told
