@@ -1,6 +1,7 @@
 // The body of a BMP Route Monitoring message (RFC 7854, section 4.6).
 use models::AsnLength;
 use peer_type::BmpPeerType;
+use wire::Need;
 use wire::Refusal;
 use wire::View;
 ghost use mathlib.Core.Path.{_≡_};
@@ -17,9 +18,7 @@ pub enum RouteMonitoringAnswer {
     Refused(Refusal),
 }
 
-// The fewest bytes of a BGP message: its header (RFC 4271, section 4.1).
-pub const BGP_HEADER: usize = 19;
-
+// Reads the body, which is one BGP message, by the length of an AS number and the type of the peer, which the per-peer header tells.
 pub fn parse_route_monitoring(
     s: &[u8],
     asn_len: AsnLength,
@@ -30,16 +29,18 @@ pub fn parse_route_monitoring(
     if wire::LIMIT < s.len() {
         return RouteMonitoringAnswer::Refused(wire::refusal_at(wire::TOO_LONG, 0));
     }
-    if s.len() < BGP_HEADER {
-        return RouteMonitoringAnswer::Refused(wire::cut_at(0));
+    match wire::need_at(s.len(), 0, wire::BGP_HEADER) {
+        Need::Cut(refusal) => RouteMonitoringAnswer::Refused(refusal),
+        Need::Met => {
+            let message = RouteMonitoring {
+                bgp_message: View {
+                    place: 0,
+                    length: s.len(),
+                },
+            };
+            RouteMonitoringAnswer::Good(message, s.len(), warnings_of(asn_len, peer_type))
+        }
     }
-    let message = RouteMonitoring {
-        bgp_message: View {
-            place: 0,
-            length: s.len(),
-        },
-    };
-    RouteMonitoringAnswer::Good(message, s.len(), warnings_of(asn_len, peer_type))
 }
 
 fn warnings_of(asn_len: AsnLength, peer_type: BmpPeerType) -> u32

@@ -28,7 +28,7 @@ pub fn write_route_monitoring(
 fn is_writable(view: View, room: usize) -> bool
     ensures { λ r. ⌜ r ≡ viewWritable view room ⌝ }
 {
-    if route_monitoring::BGP_HEADER <= view.length {
+    if wire::BGP_HEADER <= view.length {
         return view.is_inside(room);
     }
     false

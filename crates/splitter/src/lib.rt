@@ -1,9 +1,12 @@
 // One message off the front of a BMP stream.
 use common_header::BmpCommonHeader;
+use common_header::COMMON_HEADER;
 use common_header::CommonHeaderAnswer;
+use wire::Need;
 use wire::Refusal;
 use wire::View;
 ghost use mathlib.Core.Path.{_≡_};
+ghost use Prim.Native.Nat.{_≤_};
 ghost use Rattle.splitter.specs.declared.SplitAnswer.{SplitAnswer};
 ghost use Rattle.splitter.specs.Read.{judged, splitOf};
 
@@ -13,6 +16,7 @@ pub enum SplitAnswer {
     Refused(Refusal),
 }
 
+// Splits the first message off the front of the bytes.
 pub fn split_message(s: &[u8]) -> SplitAnswer
     ensures { λ r. ⌜ r ≡ splitOf (now (s .entry)) ⌝ }
 {
@@ -24,21 +28,24 @@ pub fn split_message(s: &[u8]) -> SplitAnswer
 
 // The length is judged only once the whole header is good.
 fn judge(header: BmpCommonHeader, there: usize) -> SplitAnswer
+    requires { ⌜ 6 ≤ there ⌝ }
     ensures { λ r. ⌜ r ≡ judged there header ⌝ }
 {
     let length = header.msg_len as usize;
-    if length < 6 {
+    if length < COMMON_HEADER {
         return SplitAnswer::Refused(wire::refusal_at(wire::BAD_MESSAGE_LENGTH, 1));
     }
     if wire::LIMIT < length {
         return SplitAnswer::Refused(wire::refusal_at(wire::TOO_LONG, 1));
     }
-    if there < length {
-        return SplitAnswer::Refused(wire::cut_at(6));
+    match wire::need_at(there, COMMON_HEADER, length - COMMON_HEADER) {
+        Need::Cut(refusal) => SplitAnswer::Refused(refusal),
+        Need::Met => {
+            let message = View {
+                place: 0,
+                length: length,
+            };
+            SplitAnswer::Message(header, message)
+        }
     }
-    let message = View {
-        place: 0,
-        length: length,
-    };
-    SplitAnswer::Message(header, message)
 }

@@ -1,8 +1,11 @@
 // The value of a statistics record (RFC 7854, section 4.8), by its length alone: the type has no say.
 use cursor::Cursor;
+use wire::Need;
 use wire::Refusal;
 use wire::View;
 ghost use mathlib.Core.Path.{_≡_};
+ghost use Prim.Native.Nat.{_-_, _≤_};
+ghost use lib.ListN.{length};
 ghost use Rattle.stats_data.specs.Shown.{dataOf};
 ghost use Rattle.stats_data.specs.Read.{readData};
 
@@ -23,12 +26,20 @@ pub enum ReadData {
 pub fn read_data(s: &[u8], start: Cursor, size: u16) -> ReadData
     ensures { λ r. ⌜ r ≡ readData size (now (s .entry)) (start .at) ⌝ }
 {
-    let at = start.at;
-    let length = size as usize;
-    if wire::left(s, at) < length {
-        return ReadData::Cut(wire::cut_at(at));
+    match wire::need_at(s.len(), start.at, size as usize) {
+        Need::Cut(refusal) => ReadData::Cut(refusal),
+        Need::Met => whole_data(s, start.at, size),
     }
-    let next = Cursor { at: at + length };
+}
+
+// The numbers of a value that is all there.
+fn whole_data(s: &[u8], at: usize, size: u16) -> ReadData
+    requires { ⌜ size ≤ length (now s) - at ⌝ }
+    ensures { λ r. ⌜ r ≡ readData size (now (s .entry)) at ⌝ }
+{
+    let next = Cursor {
+        at: at + (size as usize),
+    };
     match size {
         4 => ReadData::Good(0, 0, numbers::u32_at(s, at) as u64, next),
         8 => ReadData::Good(0, 0, numbers::u64_at(s, at), next),

@@ -1,21 +1,20 @@
 -- What the walk kit asks of a Statistics body. Assumes nothing.
-use mathlib.Core.Path.{_≡_, refl, sym, ap, _∙_, subst}
-use mathlib.Core.Bool.{Bool, true, false}
+use mathlib.Core.Path.{_≡_, sym, ap, _∙_, subst}
 use mathlib.Core.List.{List, _++_}
 use Prim.Native.Nat.{ℕ, suc, _+_, _-_, _≤_, _<_}
 use native.Mathlib.Omega.{arith}
-use borrow.Author.Tests.{le-ltb, le-leb}
+use borrow.Author.Tests.{le-ltb, le-leb, lt-leb}
 use lib.ListN.{length, drop, set}
 use Rattle.wire.specs.Number as Number
-use Rattle.wire.specs.Bytes.{pick, has, numAt, be}
-use Rattle.wire.specs.Refusal.{refusal, cutAt}
+use Rattle.wire.specs.Bytes.{numAt, be}
+use Rattle.wire.specs.Refusal.{refusal}
 use Rattle.wire.specs.Tlv.{Tlv, putTlv, GoodTlv}
 use Rattle.wire.specs.TlvAt.{tlvOf}
 use Rattle.wire.specs.Walk.{item, resume, readFrom}
 use Rattle.wire.specs.declared.Refusal.{Refusal}
 use Rattle.cursor.specs.declared.Cursor.{Cursor}
-use Rattle.cursor.specs.Read.{Read, got, cut, read, cursor}
-use Rattle.cursor.proofs.Reading.{Was}
+use Rattle.cursor.specs.Read.{Read, cut, read}
+use Rattle.cursor.proofs.Reading.{Was, was-cut}
 use Rattle.wire.proofs.Tlv.{tlv-length, tlv-there, tlv-join, tlv-rest, tlv-parts}
 use Rattle.wire.proofs.Walk.{Takes, Faults, Never, Laws, resume-bad, resume-full, resume-room}
 use Rattle.stats_data.proofs.Values.{value-back, value-forth}
@@ -93,11 +92,9 @@ module _ (total n at : ℕ) (table : List StatCounter) (s : List ℕ) (more : n 
 -- ---- the count in front of the records
 module _ (s : List ℕ) (short : length s ≤ Number.limit) where
   pub no-count : (x : Read) (r : Refusal) → x ≡ cut r → x ≡ read 4 s 0 → readStats s ≡ refusedAnswer r
-  no-count x r e f = go (has 4 s 0) refl (sym e ∙ f)
-    where
-      go : (b : Bool) → has 4 s 0 ≡ b → cut r ≡ pick b (got (numAt 4 s 0) (cursor (0 + 4))) (cut (cutAt 0)) → readStats s ≡ refusedAnswer r
-      go true h q = let z : _≡_ {A = ℕ} 0 1 = cc in absurd (omega arith)
-      go false h q = let z : cutAt 0 ≡ r = cc in rw (le-ltb Number.limit (length s) short, h, z)
+  no-count x r e f =
+      let lacked = was-cut 4 s 0 e f in
+      rw (le-ltb Number.limit (length s) short, lt-leb 4 (length s - 0) (lacked .few), lacked .cut-is)
 
   pub counted : (total : ℕ) (c : Cursor) → Was 4 s 0 total c → readStats s ≡ answer total (readFrom kit total (c .at) s)
   counted total c w =

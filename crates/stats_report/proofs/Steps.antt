@@ -5,11 +5,11 @@ use mathlib.Core.Bool.{Bool, true, false}
 use Prim.Native.Nat.{ℕ, _+_, _-_, _≤_, _<_}
 use native.Mathlib.Omega.{arith}
 use native.Mathlib.Nat.{add-zero}
-use borrow.Author.Tests.{lt-ltb, le-ltb, ltb-true, ltb-false, leb-true, leb-false}
-use lib.Dec.{ltb}
+use borrow.Author.Tests.{lt-ltb, le-ltb, ltb-true, ltb-false, leb-true, leb-false, lt-leb}
+use lib.Dec.{ltb, leb}
 use lib.ListN.{length, take, drop, length-drop}
 use lib.Seq.{drop-drop}
-use Rattle.wire.specs.Bytes.{pick, has, numAt}
+use Rattle.wire.specs.Bytes.{pick, numAt}
 use Rattle.wire.specs.Refusal.{cutAt}
 use Rattle.wire.specs.TlvAt.{tlvOf}
 use Rattle.wire.specs.Walk as Walk
@@ -76,11 +76,15 @@ is-fault s r (whole h k) q = let z : _≡_ {A = ℕ} 0 1 = cc in absurd (omega a
 -- ---- each answer of `step_at`
 module _ (s : List ℕ) (at : ℕ) where
   pub no-head-at : length s - at < 4 → stepAt s at ≡ Bad (headCut s at)
-  no-head-at k = go (has 2 s at) refl
+  no-head-at k = go (leb (at + 2) (length s)) refl
     where
-      go : (x : Bool) → has 2 s at ≡ x → stepAt s at ≡ Bad (pick x (cutAt (at + 2)) (cutAt at))
-      go true h = rw (of (drop at s) (no-length (simp length-drop (leb-true 2 (length s - at) h)) (simp length-drop k)))
-      go false h = rw (of (drop at s) (no-type (simp length-drop (leb-false 2 (length s - at) h))), add-zero at)
+      go : (x : Bool) → leb (at + 2) (length s) ≡ x → stepAt s at ≡ Bad (headCut s at)
+      go true h =
+          let two = leb-true (at + 2) (length s) h in
+          rw (of (drop at s) (no-length (simp length-drop (omega arith)) (simp length-drop k)), h, lt-leb (at + 2 + 2) (length s) (omega arith))
+      go false h =
+          let few = leb-false (at + 2) (length s) h in
+          rw (of (drop at s) (no-type (simp length-drop (omega arith))), add-zero at, h)
 
   module _ (long : 4 ≤ length s - at) (size : ℕ) (size-is : numAt 2 (drop at s) 2 ≡ size) (place : ℕ) (place-is : place ≡ at + 4) where
     pub no-value-at : (r : Refusal) → ReadData.Cut r ≡ readData size s place → stepAt s at ≡ Bad r

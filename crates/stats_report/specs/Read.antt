@@ -11,6 +11,7 @@ use Rattle.wire.specs.Tlv.{Tlv}
 use Rattle.wire.specs.TlvAt.{tlvOf, tlvWidths}
 use Rattle.wire.specs.Walk as Walk
 use Rattle.wire.specs.Walk.{stop, bad, item, Kit, Out, good, refused, from, readFrom}
+use Rattle.layout.specs.Layout.{cutIn}
 use Rattle.wire.specs.Exactly.{Reader}
 use Rattle.wire.specs.declared.Refusal.{Refusal}
 use Rattle.stats_data.specs.Shown.{afiOf, safiOf, numberOf}
@@ -43,7 +44,7 @@ kit = record { Item = Stat; Entry = StatCounter; step = step; size = sizeOf; ent
 
 -- the Cut of a head that is not all there: its type's, or its length's
 abbrev pub headCut : List ℕ → ℕ → Refusal
-headCut s at = pick (has 2 s at) (cutAt (at + 2)) (cutAt at)
+headCut s at = cutIn (2 ∷ 2 ∷ []) at (length s)
 
 -- one step at a place, as the code answers it: the fault, or the numbers of the entry and the cursor past it; the step never stops
 -- by itself

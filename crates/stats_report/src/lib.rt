@@ -124,14 +124,12 @@ fn step_at(s: &[u8], at: usize) -> Step
     }
 }
 
-// Where a head is not all there, its type or its length is Cut.
+// The type and the length are two fields, each Cut at its own place.
 fn head_cut(s: &[u8], at: usize) -> Refusal
     ensures { λ r. ⌜ r ≡ headCut (now (s .entry)) at ⌝ }
 {
-    if wire::left(s, at) < 2 {
-        return wire::cut_at(at);
-    }
-    wire::cut_at(at + 2)
+    let widths = [2usize, 2];
+    layout::cut_in(&widths, at, s.len())
 }
 
 fn zero_counter() -> StatCounter

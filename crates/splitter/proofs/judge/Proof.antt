@@ -1,9 +1,12 @@
 use borrow.Author.Needs.{needs}
 use borrow.Author.Tests.{lt-ltb, le-ltb}
+use native.Mathlib.Omega.{arith}
 use mathlib.Core.Path.{sym, ap, _∙_}
+use Prim.Native.Nat.{_-_}
 use Rattle.splitter.proofs.judge.Statement.{statement}
 use Rattle.splitter.proofs.judge.Tie as tie
 use Rattle.wire.specs.Number as Number
+use Rattle.wire.proofs.Needs.{was-met, was-cut}
 use Rattle.splitter.specs.declared.SplitAnswer.{SplitAnswer}
 
 cast-length : tie.Need-cast-length
@@ -19,18 +22,34 @@ refusal-at-requires-2 : tie.Need-refusal-at-requires-2
 refusal-at-requires-2 c κs = search needs
 
 returns-2 : tie.Need-returns-2
-returns-2 c = ap SplitAnswer.Refused (c .refusal-at2 .ensures) ∙ sym (rw (le-ltb (c .before .before .before .before .args .header .«msg_len») 6 (c .before .before .if1 .left), lt-ltb Number.limit (c .before .before .before .before .args .header .«msg_len») (c .before .if2 .taken)))
+returns-2 c =
+    let n = c .before .before .before .before .args .header .«msg_len» in
+    ap SplitAnswer.Refused (c .refusal-at2 .ensures) ∙ sym (rw (le-ltb n 6 (c .before .before .if1 .left), lt-ltb Number.limit n (c .before .if2 .taken)))
 
-cut-at-requires : tie.Need-cut-at-requires
-cut-at-requires c κs = search needs
+need-at-requires : tie.Need-need-at-requires
+need-at-requires c κs = search needs
+
+enum-known-refusal : tie.Need-enum-known-refusal
+enum-known-refusal c = search needs
+
+enum-told : tie.Need-enum-told
+enum-told c = search needs
 
 returns-3 : tie.Need-returns-3
 returns-3 c =
-    ap SplitAnswer.Refused (c .cut-at .ensures)
-    ∙ sym (rw (le-ltb (c .before .before .before .before .before .args .header .«msg_len») 6 (c .before .before .before .if1 .left), le-ltb Number.limit (c .before .before .before .before .before .args .header .«msg_len») (c .before .before .if2 .left), lt-ltb (c .before .before .before .before .before .args .there) (c .before .before .before .before .before .args .header .«msg_len») (c .before .if3 .taken)))
+    let n = c .before .before .before .before .before .before .before .args .header .«msg_len» in
+    let there = c .before .before .before .before .before .before .before .args .there in
+    let lacked = was-cut there 6 (n - 6) (c .before .refusal .given .1) (c .before .before .before .need-at .ensures) in
+    ap SplitAnswer.Refused (lacked .cut-is)
+    ∙ sym (rw (le-ltb n 6 (c .before .before .before .before .before .if1 .left), le-ltb Number.limit n (c .before .before .before .before .if2 .left), lt-ltb there n (omega (arith, lacked .few))))
 
 returns-4 : tie.Need-returns-4
-returns-4 c = rw (le-ltb (c .before .before .before .before .args .header .«msg_len») 6 (c .before .before .if1 .left), le-ltb Number.limit (c .before .before .before .before .args .header .«msg_len») (c .before .if2 .left), le-ltb (c .before .before .before .before .args .there) (c .before .before .before .before .args .header .«msg_len») (c .if3 .left))
+returns-4 c =
+    let n = c .before .before .before .before .before .before .args .header .«msg_len» in
+    let there = c .before .before .before .before .before .before .args .there in
+    let met = was-met there 6 (n - 6) (c .enum-told .given .1) (c .before .before .need-at .ensures) in
+    let long = c .before .before .before .before .before .before .pre in
+    rw (le-ltb n 6 (c .before .before .before .before .if1 .left), le-ltb Number.limit n (c .before .before .before .if2 .left), le-ltb there n (omega arith))
 
 pub judge-spec : {M : Type 1} → statement M
 judge-spec =
@@ -41,6 +60,8 @@ judge-spec =
     returns
     refusal-at-requires-2
     returns-2
-    cut-at-requires
+    need-at-requires
+    enum-known-refusal
+    enum-told
     returns-3
     returns-4)

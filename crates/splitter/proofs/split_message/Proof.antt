@@ -1,5 +1,10 @@
 use borrow.Author.Needs.{needs}
-use mathlib.Core.Path.{sym, _∙_}
+use denote.Ref.{now}
+use mathlib.Core.Path.{_≡_, refl, sym, ap, _∙_}
+use Rattle.wire.specs.Number as Number
+use Rattle.common_header.specs.Shown.{refusalOf}
+use Rattle.common_header.proofs.Laws.{accepted}
+use Rattle.common_header.specs.declared.CommonHeaderAnswer.{CommonHeaderAnswer}
 use Rattle.splitter.proofs.split_message.Statement.{statement}
 use Rattle.splitter.proofs.split_message.Tie as tie
 
@@ -13,7 +18,10 @@ enum-known-header : tie.Need-enum-known-header
 enum-known-header c = search needs
 
 judge-requires : tie.Need-judge-requires
-judge-requires c κs = search needs
+judge-requires c κs =
+    let good = ap (λ (a : CommonHeaderAnswer). refusalOf a .number) (sym (c .before .before .before .parse-bmp-common-header .ensures) ∙ c .before .header .given .1) in
+    let long = accepted (now (c .before .before .before .before .before .args .s)) good .long in
+    search needs
 
 returns : tie.Need-returns
 returns c = sym (rw (← c .before .before .before .parse-bmp-common-header .ensures, c .before .refusal .given .1))
