@@ -9,9 +9,9 @@ use borrow.Author.Tests.{lt-leb, le-leb, lt-ltb, le-ltb, eq-eqb, ne-eqb, leb-tru
 use lib.Dec.{leb, ltb, eqb}
 use lib.ListN.{length, drop, length-drop}
 use Rattle.wire.specs.Number as Number
-use Rattle.wire.specs.Bytes.{pick, has, numAt}
+use Rattle.wire.specs.Bytes.{pick, numAt}
 use Rattle.wire.specs.Refusal.{refusal, cutAt}
-use Rattle.cursor.specs.Read.{Read, got, cut, read, cursor}
+use Rattle.cursor.specs.Read.{cursor}
 use Rattle.wire.specs.Walk as Walk
 use Rattle.wire.specs.Walk.{stop, bad, item, from}
 use Rattle.wire.specs.declared.Refusal.{Refusal}
@@ -147,14 +147,6 @@ module _ (s : List ℕ) (at : ℕ) where
 
     pub information-at : kind ≡ 1 → stepAt s at ≡ asStep at (informationStep (drop at s))
     information-at h = ap (asStep at) (information-of (drop at s) long′ (kind-is ∙ h))
-
--- a Cut that the cursor made is at its place
-pub cut-is : (w : ℕ) (s : List ℕ) (at : ℕ) {x : Read} {r : Refusal} → x ≡ cut r → x ≡ read w s at → r ≡ cutAt at
-cut-is w s at {x} {r} e f = go (has w s at) (sym e ∙ f)
-  where
-    go : (b : Bool) → cut r ≡ pick b (got (numAt w s at) (cursor (at + w))) (cut (cutAt at)) → r ≡ cutAt at
-    go true q = let z : _≡_ {A = ℕ} 0 1 = cc in absurd (omega arith)
-    go false q = cc
 
 -- ---- each answer of `message_at` and of `information_at`, where the value starts at a place
 module _ (s : List ℕ) (at size : ℕ) (size-is : size ≡ numAt 2 (drop at s) 2) (place : ℕ) (place-is : place ≡ at + 4) where

@@ -2,6 +2,7 @@
 use cursor::Cursor;
 use cursor::ReadU16;
 use tlv_head::TlvHead;
+use wire::Need;
 use wire::Refusal;
 use wire::View;
 ghost use mathlib.Core.Path.{_≡_};
@@ -140,20 +141,21 @@ fn message_at(s: &[u8], at: usize, size: u16, value: Cursor) -> Step
     ensures { λ r. ⌜ r ≡ asStep at (messageStep (drop at (now (s .entry)))) ⌝ }
 {
     let place = value.at;
-    if size < 19 {
+    let length = size as usize;
+    if length < wire::BGP_HEADER {
         return Step::Bad(wire::refusal_at(wire::BGP_LENGTH, at + 2));
     }
-    if wire::left(s, place) < (size as usize) {
-        return Step::Bad(wire::cut_at(place));
+    match wire::need_at(s.len(), place, length) {
+        Need::Cut(refusal) => Step::Bad(refusal),
+        Need::Met => Step::Whole(
+            0,
+            size,
+            place as u32,
+            Cursor {
+                at: place + length,
+            },
+        ),
     }
-    Step::Whole(
-        0,
-        size,
-        place as u32,
-        Cursor {
-            at: place + (size as usize),
-        },
-    )
 }
 
 // Information behind type and length: two bytes, whatever the length says.

@@ -2,7 +2,7 @@ use borrow.Author.Needs.{needs}
 use denote.Ref.{now}
 use mathlib.Core.Path.{_≡_, sym, ap, _∙_}
 use lib.ListN.{drop}
-use Rattle.route_mirroring.proofs.Steps.{cut-is, short-at, unknown-at, information-there}
+use Rattle.route_mirroring.proofs.Steps.{short-at, unknown-at, information-there}
 use Rattle.wire.specs.Bytes.{numAt}
 use Rattle.cursor.specs.Read.{fromU16}
 use Rattle.cursor.proofs.Reading.{Was, was-got, was-cut, was-in, tells16}
@@ -38,10 +38,10 @@ cast-t12 c = search needs
 
 returns-2 : tie.Need-returns-2
 returns-2 c =
-    let e = ap fromU16 (c .before .refusal .given .1) in
-    let f = tells16 _ (c .before .before .before .read-u16 .ensures) in
-    let h = was-cut 2 (now (c .before .before .before .before .before .args .s)) (c .before .before .before .before .before .args .value .at) e f in
-    ap Bad (cut-is 2 (now (c .before .before .before .before .before .args .s)) (c .before .before .before .before .before .args .value .at) e f) ∙ sym (short-at (now (c .before .before .before .before .before .args .s)) (c .before .before .before .before .before .args .at) (c .before .before .before .before .before .args .size) (c .before .before .before .before .before .pre .0) (c .before .before .before .before .before .args .value .at) (c .before .before .before .before .before .pre .1) h)
+    let a = c .before .before .before .before .before .args in
+    let pre = c .before .before .before .before .before .pre in
+    let lacked = was-cut 2 (now (a .s)) (a .value .at) (ap fromU16 (c .before .refusal .given .1)) (tells16 _ (c .before .before .before .read-u16 .ensures)) in
+    ap Bad (lacked .cut-is) ∙ sym (short-at (now (a .s)) (a .at) (a .size) (pre .0) (a .value .at) (pre .1) (lacked .few))
 
 returns-3 : tie.Need-returns-3
 returns-3 c =

@@ -2,6 +2,8 @@ use borrow.Author.Needs.{needs}
 use native.Mathlib.Omega.{arith}
 use denote.Ref.{now}
 use mathlib.Core.Path.{sym, ap, _∙_}
+use lib.ListN.{length}
+use Rattle.wire.proofs.Needs.{was-met, was-cut}
 use Rattle.route_mirroring.proofs.Steps.{small-at, cut-at, message-there}
 use Rattle.route_mirroring.proofs.message_at.Statement.{statement}
 use Rattle.route_mirroring.proofs.message_at.Tie as tie
@@ -14,25 +16,43 @@ refusal-at-requires : tie.Need-refusal-at-requires
 refusal-at-requires c κs = search needs
 
 returns : tie.Need-returns
-returns c = ap Bad (c .refusal-at .ensures) ∙ sym (small-at (now (c .before .before .before .args .s)) (c .before .before .before .args .at) (c .before .before .before .args .size) (c .before .before .before .pre .1 .0) (c .before .before .before .args .value .at) (c .before .before .before .pre .1 .1) (c .before .if1 .taken))
+returns c =
+    let a = c .before .before .before .args in
+    ap Bad (c .refusal-at .ensures) ∙ sym (small-at (now (a .s)) (a .at) (a .size) (c .before .before .before .pre .1 .0) (a .value .at) (c .before .before .before .pre .1 .1) (c .before .if1 .taken))
 
-left-requires : tie.Need-left-requires
-left-requires c κs = search needs
+need-at-requires : tie.Need-need-at-requires
+need-at-requires c κs = search needs
 
-cut-at-requires : tie.Need-cut-at-requires
-cut-at-requires c κs = search needs
+enum-known-refusal : tie.Need-enum-known-refusal
+enum-known-refusal c = search needs
+
+enum-told : tie.Need-enum-told
+enum-told c = search needs
+
+cast-t14 : tie.Need-cast-t14
+cast-t14 c =
+    let a = c .before .before .before .before .before .args in
+    let met = was-met (length (now (a .s))) (a .value .at) (a .size) (c .enum-told .given .1) (c .before .before .need-at .ensures) in
+    omega (arith, c .before .before .before .before .before .pre .0)
+
+add-t15 : tie.Need-add-t15
+add-t15 c =
+    let a = c .before .before .before .before .before .args in
+    let met = was-met (length (now (a .s))) (a .value .at) (a .size) (c .enum-told .given .1) (c .before .before .need-at .ensures) in
+    search needs
 
 returns-2 : tie.Need-returns-2
-returns-2 c = ap Bad (c .cut-at .ensures) ∙ sym (cut-at (now (c .before .before .before .before .before .args .s)) (c .before .before .before .before .before .args .at) (c .before .before .before .before .before .args .size) (c .before .before .before .before .before .pre .1 .0) (c .before .before .before .before .before .args .value .at) (c .before .before .before .before .before .pre .1 .1) (omega arith) (omega arith))
-
-cast-t12 : tie.Need-cast-t12
-cast-t12 c = omega (arith, c .before .before .before .before .pre .0)
-
-add-t10 : tie.Need-add-t10
-add-t10 c = search needs
+returns-2 c =
+    let a = c .before .before .before .before .before .before .args in
+    let lacked = was-cut (length (now (a .s))) (a .value .at) (a .size) (c .before .refusal .given .1) (c .before .before .before .need-at .ensures) in
+    ap Bad (lacked .cut-is)
+    ∙ sym (cut-at (now (a .s)) (a .at) (a .size) (c .before .before .before .before .before .before .pre .1 .0) (a .value .at) (c .before .before .before .before .before .before .pre .1 .1) (c .before .before .before .before .if1 .left) (lacked .few))
 
 returns-3 : tie.Need-returns-3
-returns-3 c = sym (message-there (now (c .before .before .before .before .args .s)) (c .before .before .before .before .args .at) (c .before .before .before .before .args .size) (c .before .before .before .before .pre .1 .0) (c .before .before .before .before .args .value .at) (c .before .before .before .before .pre .1 .1) (omega arith) (omega arith))
+returns-3 c =
+    let a = c .before .before .before .before .before .args in
+    let met = was-met (length (now (a .s))) (a .value .at) (a .size) (c .enum-told .given .1) (c .before .before .need-at .ensures) in
+    sym (message-there (now (a .s)) (a .at) (a .size) (c .before .before .before .before .before .pre .1 .0) (a .value .at) (c .before .before .before .before .before .pre .1 .1) (c .before .before .before .if1 .left) met)
 
 pub message-at-spec : {M : Type 1} → statement M
 message-at-spec =
@@ -41,9 +61,10 @@ message-at-spec =
     add-refusal-at
     refusal-at-requires
     returns
-    left-requires
-    cut-at-requires
+    need-at-requires
+    enum-known-refusal
+    enum-told
+    cast-t14
+    add-t15
     returns-2
-    cast-t12
-    add-t10
     returns-3)
