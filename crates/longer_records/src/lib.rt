@@ -72,7 +72,7 @@ fn longer_termination(s: &[u8], buffer: &[u8], out: &mut [u8]) -> WriteAnswer {
     message.tlvs[1] = TerminationTlv {
         kind: 0,
         info_len: limit_inputs::LARGE + 1,
-        value: LARGER,
+        number: LARGER,
     };
     termination_message_writer::write_termination_message(message, buffer, out)
 }

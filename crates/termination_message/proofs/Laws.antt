@@ -95,8 +95,8 @@ module _ (n at : ℕ) (table : List TerminationTlv) (s : List ℕ) (few : n ≤ 
       let w = was-bad at r (drop at s) e in
       ap answer (onwards-bad kit (tails .nil) n at table s (w .0) few (w .1)) ∙ ap refusedAnswer (w .2)
 
-  pub onward : (kind size value : ℕ) (c : Cursor) → stepAt s at ≡ Whole kind size value c
-      → TurnTo kit takes n at table s (record { kind = kind; «info_len» = size; value = value }) (c .at)
-  onward kind size value c e =
-      let w = was-whole at kind size value c (drop at s) e in
+  pub onward : (kind size number : ℕ) (c : Cursor) → stepAt s at ≡ Whole kind size number c
+      → TurnTo kit takes n at table s (record { kind = kind; «info_len» = size; number = number }) (c .at)
+  onward kind size number c e =
+      let w = was-whole at kind size number c (drop at s) e in
       turn-to kit takes n at table s (w .0) _ (c .at) few h (w .1) (w .2) (w .3)

@@ -188,21 +188,21 @@ was-bad at r s e = go (step s) refl e
     go (bad d) h q = (d, h, cc)
     go (item t) h q = (r, cc, cc)
 
-pub was-whole : (at kind size value : ℕ) (c : Cursor) (s : List ℕ) → asStep at s (step s) ≡ Whole kind size value c
-    → (t : Tlv) × (step s ≡ item t) × (entry at t ≡ record { kind = kind; «info_len» = size; value = value }) × (at + sizeOf t ≡ c .at)
-was-whole at kind size value c s e = go (step s) refl e
+pub was-whole : (at kind size number : ℕ) (c : Cursor) (s : List ℕ) → asStep at s (step s) ≡ Whole kind size number c
+    → (t : Tlv) × (step s ≡ item t) × (entry at t ≡ record { kind = kind; «info_len» = size; number = number }) × (at + sizeOf t ≡ c .at)
+was-whole at kind size number c s e = go (step s) refl e
   where
-    go : (x : Walk.Step Tlv) → step s ≡ x → asStep at s x ≡ Whole kind size value c
-        → (t : Tlv) × (step s ≡ item t) × (entry at t ≡ record { kind = kind; «info_len» = size; value = value }) × (at + sizeOf t ≡ c .at)
+    go : (x : Walk.Step Tlv) → step s ≡ x → asStep at s x ≡ Whole kind size number c
+        → (t : Tlv) × (step s ≡ item t) × (entry at t ≡ record { kind = kind; «info_len» = size; number = number }) × (at + sizeOf t ≡ c .at)
     go stop h q = let z : _≡_ {A = ℕ} 0 1 = cc in absurd (omega arith)
     go (bad r) h q = let z : _≡_ {A = ℕ} 0 1 = cc in absurd (omega arith)
     go (item (string n l)) h q =
         let kind-is : 0 ≡ kind = cc in
         let size-is : n ≡ size = cc in
-        let value-is : at + 4 ≡ value = cc in
-        (string n l, h, λ i. record { kind = kind-is i; «info_len» = size-is i; value = value-is i }, cc)
+        let number-is : at + 4 ≡ number = cc in
+        (string n l, h, λ i. record { kind = kind-is i; «info_len» = size-is i; number = number-is i }, cc)
     go (item (reason n code)) h q =
         let kind-is : 1 ≡ kind = cc in
         let size-is : n ≡ size = cc in
-        let value-is : code ≡ value = cc in
-        (reason n code, h, λ i. record { kind = kind-is i; «info_len» = size-is i; value = value-is i }, cc)
+        let number-is : code ≡ number = cc in
+        (reason n code, h, λ i. record { kind = kind-is i; «info_len» = size-is i; number = number-is i }, cc)

@@ -47,7 +47,7 @@ kit = record { Item = Tlv; Entry = TerminationTlv; step = step; size = sizeOf; e
 abbrev pub asStep : ℕ → List ℕ → Walk.Step Tlv → Step
 asStep at s stop = Stop (stopAt at (tailOf s))
 asStep at s (bad r) = Bad (from at r)
-asStep at s (item t) = Whole (entry at t .kind) (entry at t .«info_len») (entry at t .value) (cursor (at + sizeOf t))
+asStep at s (item t) = Whole (entry at t .kind) (entry at t .«info_len») (entry at t .number) (cursor (at + sizeOf t))
 
 abbrev pub stepAt : List ℕ → ℕ → Step
 stepAt s at = asStep at (drop at s) (step (drop at s))

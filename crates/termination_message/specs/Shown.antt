@@ -40,22 +40,22 @@ codeOf PermanentlyAdministrativelyClosed = 4
 
 -- the view of a String, whose number is its place
 abbrev pub textOf : TerminationTlv → View
-textOf t = view (t .value) (t .«info_len»)
+textOf t = view (t .number) (t .«info_len»)
 
 -- what an entry's value is: type 0 is a String, every other a Reason, whose number is its code
 abbrev pub valueOf : TerminationTlv → TerminationTlvValue
-valueOf t = pick (eqb (t .kind) 0) (TerminationTlvValue.String (textOf t)) (TerminationTlvValue.Reason (reasonOf (t .value)))
+valueOf t = pick (eqb (t .kind) 0) (TerminationTlvValue.String (textOf t)) (TerminationTlvValue.Reason (reasonOf (t .number)))
 
 abbrev pub zeroTlv : TerminationTlv
-zeroTlv = record { kind = 0; «info_len» = 0; value = 0 }
+zeroTlv = record { kind = 0; «info_len» = 0; number = 0 }
 
 unfoldable pub zeroTable : List TerminationTlv
 zeroTable = replicate places zeroTlv
 
 -- a TLV as the table shows it, where it starts at a place
 abbrev pub entry : ℕ → Tlv → TerminationTlv
-entry at (string size value) = record { kind = 0; «info_len» = size; value = at + 4 }
-entry at (reason size code) = record { kind = 1; «info_len» = size; value = code }
+entry at (string size value) = record { kind = 0; «info_len» = size; number = at + 4 }
+entry at (reason size code) = record { kind = 1; «info_len» = size; number = code }
 
 abbrev pub goodAnswer : ℕ → ℕ → List TerminationTlv → Tail → TerminationAnswer
 goodAnswer count end table t =

@@ -34,7 +34,7 @@ pub enum TerminationTlvValue {
 pub struct TerminationTlv {
     pub kind: u16,
     pub info_len: u16,
-    pub value: u32,
+    pub number: u32,
 }
 
 pub struct TerminationMessage {
@@ -77,14 +77,14 @@ impl TerminationTlv {
     pub fn info_value(self) -> TerminationTlvValue
         ensures { λ r. ⌜ r ≡ valueOf self ⌝ }
     {
-        let value = self.value;
+        let number = self.number;
         if self.kind == 0 {
             return TerminationTlvValue::String(View {
-                place: value as usize,
+                place: number as usize,
                 length: self.info_len as usize,
             });
         }
-        TerminationTlvValue::Reason(reason_of(value))
+        TerminationTlvValue::Reason(reason_of(number))
     }
 }
 
@@ -115,14 +115,14 @@ pub fn parse_termination_message(s: &[u8]) -> TerminationAnswer
         match step_at(s, at) {
             Step::Stop(place) => break place,
             Step::Bad(refusal) => return refused(refusal),
-            Step::Whole(kind, size, value, next) => {
+            Step::Whole(kind, size, number, next) => {
                 if 32 <= count {
                     return refused(wire::refusal_at(wire::TOO_MANY, at));
                 }
                 tlvs[count] = TerminationTlv {
                     kind: kind,
                     info_len: size,
-                    value: value,
+                    number: number,
                 };
                 count += 1;
                 at = next.at;
@@ -191,7 +191,7 @@ fn zero_tlv() -> TerminationTlv
     TerminationTlv {
         kind: 0,
         info_len: 0,
-        value: 0,
+        number: 0,
     }
 }
 

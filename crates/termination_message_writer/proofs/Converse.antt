@@ -30,7 +30,7 @@ use Rattle.termination_message.proofs.Shows.{ValueAt}
 use Rattle.termination_message_writer.proofs.Trip.{ReadsBack}
 
 abbrev pub Inside : List ℕ → TerminationTlv → Type 0
-Inside b t = t .kind ≡ 0 → t .value + t .«info_len» ≤ length b
+Inside b t = t .kind ≡ 0 → t .number + t .«info_len» ≤ length b
 
 abbrev pub ReasonTwo : TerminationTlv → Type 0
 ReasonTwo t = 0 < t .kind → t .«info_len» ≡ 2
@@ -59,7 +59,7 @@ fine-entry b t l g q = go (eqb (t .kind) 0) refl
         a-text k (record { fits = good-fits 0 (t .«info_len») (textOf t) b (h .well-formed) (q .inside k); not-last-empty = followed b t l h })
     go false e =
         let k = eqb-false (t .kind) 0 e in
-        let h : ReadTlv (reason (t .«info_len») (t .value)) (joined writer b l) = subst (λ (x : Tlv). ReadTlv x (joined writer b l)) (part-code b t k) g in
+        let h : ReadTlv (reason (t .«info_len») (t .number)) (joined writer b l) = subst (λ (x : Tlv). ReadTlv x (joined writer b l)) (part-code b t k) g in
         let some : 0 < t .kind = omega arith in
         a-code (omega (arith, q .known)) (q .two some) (h .code-known)
 

@@ -37,13 +37,13 @@ table-long m vs is = sym (length-map (m .tlvs) _) ∙ Struct.owed Message.the-ty
 pub part-text : (b : List ℕ) (t : TerminationTlv) → t .kind ≡ 0 → partOf b t ≡ string (t .«info_len») (viewed b (textOf t))
 part-text b t k = rw (eq-eqb (t .kind) 0 k)
 
-pub part-code : (b : List ℕ) (t : TerminationTlv) → (t .kind ≡ 0 → ⊥) → partOf b t ≡ reason (t .«info_len») (t .value)
+pub part-code : (b : List ℕ) (t : TerminationTlv) → (t .kind ≡ 0 → ⊥) → partOf b t ≡ reason (t .«info_len») (t .number)
 part-code b t k = rw (ne-eqb (t .kind) 0 k)
 
 -- ---- what `tlvWritable` asks
 pub data Fine (room after : ℕ) (t : TerminationTlv) : Type 0 where
   a-text : t .kind ≡ 0 → WalkedTlvFits 0 (t .«info_len») (textOf t) room after → Fine room after t
-  a-code : t .kind ≡ 1 → t .«info_len» ≡ 2 → t .value ≤ 4 → Fine room after t
+  a-code : t .kind ≡ 1 → t .«info_len» ≡ 2 → t .number ≤ 4 → Fine room after t
 
 pub fine-of : (room after : ℕ) (t : TerminationTlv) → tlvWritable room after t ≡ true → Fine room after t
 unfolding tlvWritable
@@ -53,20 +53,20 @@ fine-of room after t e = go (eqb (t .kind) 0) refl (ltb 1 (t .kind)) refl (eqb (
     no q = let z : _≡_ {A = ℕ} 0 1 = cc in absurd (omega arith)
 
     go : (a : Bool) → eqb (t .kind) 0 ≡ a → (d : Bool) → ltb 1 (t .kind) ≡ d → (f : Bool) → eqb (t .«info_len») 2 ≡ f
-        → pick a (walkedTlvFits 0 (t .«info_len») (textOf t) room after) (pick d false (pick f (leb (t .value) 4) false)) ≡ true → Fine room after t
+        → pick a (walkedTlvFits 0 (t .«info_len») (textOf t) room after) (pick d false (pick f (leb (t .number) 4) false)) ≡ true → Fine room after t
     go true ha d hd f hf q = a-text (eqb-true (t .kind) 0 ha) (walked-of _ _ _ _ _ q)
     go false ha true hd f hf q = no q
     go false ha false hd false hf q = no q
     go false ha false hd true hf q =
         let some = eqb-false (t .kind) 0 ha in
         let few = ltb-false 1 (t .kind) hd in
-        a-code (omega arith) (eqb-true (t .«info_len») 2 hf) (leb-true (t .value) 4 q)
+        a-code (omega arith) (eqb-true (t .«info_len») 2 hf) (leb-true (t .number) 4 q)
 
 pub fine-from : (room after : ℕ) (t : TerminationTlv) → Fine room after t → tlvWritable room after t ≡ true
 unfolding tlvWritable
 fine-from room after t (a-text k f) = rw (eq-eqb (t .kind) 0 k) (walked-from _ _ _ _ _ f)
 fine-from room after t (a-code k s v) =
-    rw (ne-eqb (t .kind) 0 (λ z. omega arith), le-ltb 1 (t .kind) (omega arith), eq-eqb (t .«info_len») 2 s) (le-leb (t .value) 4 v)
+    rw (ne-eqb (t .kind) 0 (λ z. omega arith), le-ltb 1 (t .kind) (omega arith), eq-eqb (t .«info_len») 2 s) (le-leb (t .number) 4 v)
 
 -- ---- the entry of a String is judged as it is, and that of a Reason is writable where it is
 pub text-ok : (room after : ℕ) (t : TerminationTlv) → t .kind ≡ 0 → entryWritable 0 false room after (entryOf t) ≡ tlvWritable room after t
@@ -93,10 +93,10 @@ put-one : (b : List ℕ) (t : TerminationTlv) (r : List ℕ) → put (partOf b t
 unfolding be
 put-one b t r = go (eqb (t .kind) 0)
   where
-    go : (k : Bool) → put (pick k (string (t .«info_len») (viewed b (textOf t))) (reason (t .«info_len») (t .value))) r
-        ≡ oneTlv b (record { kind = pick k 0 1; size = t .«info_len»; value = pick k (Part (textOf t)) (Number (t .value % 65536)) }) ++ r
+    go : (k : Bool) → put (pick k (string (t .«info_len») (viewed b (textOf t))) (reason (t .«info_len») (t .number))) r
+        ≡ oneTlv b (record { kind = pick k 0 1; size = t .«info_len»; value = pick k (Part (textOf t)) (Number (t .number % 65536)) }) ++ r
     go true = refl
-    go false = ap (λ (l : List ℕ). be 2 1 ++ (be 2 (t .«info_len») ++ (l ++ r))) (two-bytes (t .value))
+    go false = ap (λ (l : List ℕ). be 2 1 ++ (be 2 (t .«info_len») ++ (l ++ r))) (two-bytes (t .number))
 
 pub bodied : Bodied writer oneOf
 bodied = record { put-is = put-one; length-is = λ b n t e. entry-long 0 false b n (entryOf t) (entry-ok (length b) n t (fine-of (length b) n t e)) }
@@ -105,9 +105,9 @@ bodied = record { put-is = put-one; length-is = λ b n t e. entry-long 0 false b
 put-bytes : (b : List ℕ) → Bytes b → (t : TerminationTlv) (r : List ℕ) → Bytes r → Bytes (put (partOf b t) r)
 put-bytes b p t r q = go (eqb (t .kind) 0)
   where
-    go : (k : Bool) → Bytes (put (pick k (string (t .«info_len») (viewed b (textOf t))) (reason (t .«info_len») (t .value))) r)
+    go : (k : Bool) → Bytes (put (pick k (string (t .«info_len») (viewed b (textOf t))) (reason (t .«info_len») (t .number))) r)
     go true = bytes-append (bytes-be 2 0) (bytes-append (bytes-be 2 (t .«info_len»)) (bytes-append (bytes-viewed b (textOf t) p) q))
-    go false = bytes-append (bytes-be 2 1) (bytes-append (bytes-be 2 (t .«info_len»)) (bytes-append (bytes-be 2 (t .value)) q))
+    go false = bytes-append (bytes-be 2 1) (bytes-append (bytes-be 2 (t .«info_len»)) (bytes-append (bytes-be 2 (t .number)) q))
 
 pub all-bytes : (b : List ℕ) → Bytes b → (l : List TerminationTlv) → Bytes (joined writer b l)
 all-bytes b p [] = none

@@ -19,7 +19,7 @@ use Rattle.termination_message.specs.declared.TerminationMessage.{TerminationMe
 
 -- ---- the reading of a record whose views point into a buffer: type 0 is a String, every other a Reason
 abbrev pub partOf : List ℕ → TerminationTlv → Tlv
-partOf b t = pick (eqb (t .kind) 0) (string (t .«info_len») (viewed b (textOf t))) (reason (t .«info_len») (t .value))
+partOf b t = pick (eqb (t .kind) 0) (string (t .«info_len») (viewed b (textOf t))) (reason (t .«info_len») (t .number))
 
 -- ---- a TLV is writable, by the buffer's length and the number of TLVs after it. Not writable, and refused with 12 (BadField):
 --
@@ -30,7 +30,7 @@ partOf b t = pick (eqb (t .kind) 0) (string (t .«info_len») (viewed b (textOf 
 --
 -- nor is a record of more than 32 TLVs
 abbrev pub reasonWritable : TerminationTlv → Bool
-reasonWritable t = pick (ltb 1 (t .kind)) false (pick (eqb (t .«info_len») 2) (leb (t .value) 4) false)
+reasonWritable t = pick (ltb 1 (t .kind)) false (pick (eqb (t .«info_len») 2) (leb (t .number) 4) false)
 
 unfoldable pub tlvWritable : ℕ → ℕ → TerminationTlv → Bool
 tlvWritable room after t = pick (eqb (t .kind) 0) (walkedTlvFits 0 (t .«info_len») (textOf t) room after) (reasonWritable t)
@@ -65,7 +65,7 @@ entryOf t =
     record {
       kind = pick (eqb (t .kind) 0) 0 1;
       size = t .«info_len»;
-      value = pick (eqb (t .kind) 0) (Part (textOf t)) (Number (t .value % 65536));
+      value = pick (eqb (t .kind) 0) (Part (textOf t)) (Number (t .number % 65536));
     }
 
 -- ---- two records are the same: their numbers below the count, and the bytes that their views show, each in its own buffer
@@ -73,7 +73,7 @@ pub record SameTlv (t : TerminationTlv) (b : List ℕ) (u : TerminationTlv) (s :
   pub kind-same : t .kind ≡ u .kind
   pub len-same : t .«info_len» ≡ u .«info_len»
   pub text-same : t .kind ≡ 0 → viewed b (textOf t) ≡ viewed s (textOf u)
-  pub code-same : 0 < t .kind → t .value ≡ u .value
+  pub code-same : 0 < t .kind → t .number ≡ u .number
 
 pub record Same (m : TerminationMessage) (b : List ℕ) (n : TerminationMessage) (s : List ℕ) : Type 0 where
   pub count-same : m .count ≡ n .count

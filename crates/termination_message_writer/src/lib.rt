@@ -65,18 +65,18 @@ fn tlv_writable(tlv: TerminationTlv, room: usize, after: usize) -> bool
     if tlv.info_len != 2 {
         return false;
     }
-    tlv.value <= 4
+    tlv.number <= 4
 }
 
 // A Reason's code is written in two bytes; only codes that fit them are writable.
 fn entry_of(tlv: TerminationTlv) -> TlvEntry
     ensures { λ r. ⌜ r ≡ entryOf tlv ⌝ }
 {
-    let value = tlv.value;
+    let number = tlv.number;
     let size = tlv.info_len;
     if tlv.kind == 0 {
         let view = View {
-            place: value as usize,
+            place: number as usize,
             length: size as usize,
         };
         return TlvEntry {
@@ -88,6 +88,6 @@ fn entry_of(tlv: TerminationTlv) -> TlvEntry
     TlvEntry {
         kind: 1,
         size: size,
-        value: TlvValue::Number((value % 65536) as u16),
+        value: TlvValue::Number((number % 65536) as u16),
     }
 }

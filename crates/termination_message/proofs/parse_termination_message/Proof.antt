@@ -26,7 +26,7 @@ abbrev μ-loop : tie.MeasureT-loop
 
 -- after a whole TLV
 onward-at : (c : tie.After-known-told3 Inv-loop μ-loop)
-    → TurnTo kit takes (c .before .before .before .before .loop .count) (c .before .before .before .before .loop .at) (c .before .before .before .before .loop .tlvs) (now (c .before .before .before .before .before .before .before .before .args .s)) (record { kind = c .before .kind .given .0 .0; «info_len» = c .before .kind .given .0 .1 .0; value = c .before .kind .given .0 .1 .1 .0 }) (c .before .kind .given .0 .1 .1 .1 .0 .at)
+    → TurnTo kit takes (c .before .before .before .before .loop .count) (c .before .before .before .before .loop .at) (c .before .before .before .before .loop .tlvs) (now (c .before .before .before .before .before .before .before .before .args .s)) (record { kind = c .before .kind .given .0 .0; «info_len» = c .before .kind .given .0 .1 .0; number = c .before .kind .given .0 .1 .1 .0 }) (c .before .kind .given .0 .1 .1 .1 .0 .at)
 onward-at c = onward _ _ _ _ (c .before .before .before .before .loop .inv .0 .0) (c .before .before .before .before .loop .inv .0 .1) _ _ _ _ (sym (c .before .before .before .step-at .ensures) ∙ c .before .kind .given .1)
 
 refusal-at-requires : tie.Need-refusal-at-requires Inv-loop μ-loop
