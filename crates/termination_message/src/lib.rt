@@ -149,12 +149,11 @@ fn step_at(s: &[u8], at: usize) -> Step
     let TlvHead::Found(kind, size, value) = tlv_head::read_head(start, s, 1) else {
         return Step::Stop(at);
     };
+    if 1 < kind {
+        return Step::Bad(wire::refusal_at(wire::UNKNOWN_KIND, at));
+    }
     let place = value.at;
     let end = place + (size as usize);
-    let unknown = wire::refusal_at(wire::UNKNOWN_KIND, at);
-    if 1 < kind {
-        return Step::Bad(unknown);
-    }
     if s.len() < end {
         return Step::Stop(place);
     }
