@@ -16,11 +16,14 @@ use Rattle.wire.specs.Exactly.{Sound, Complete, Told, Unique}
 use Rattle.wire.specs.Number as Number
 use Rattle.wire.specs.Refusal.{refusal}
 use Rattle.wire.specs.TlvAt.{unread}
+use Rattle.wire.specs.declared.View.{View}
 use Rattle.initiation_message.specs.Grammar.{Reading, join, Good, grammar, places}
 use Rattle.initiation_message.specs.Read.{kit, readInitiation, reader, answer}
+use Rattle.initiation_message.specs.declared.InitiationTlv.{InitiationTlv}
+use Rattle.initiation_message.specs.declared.InitiationTlvType.{InitiationTlvType}
 use Rattle.initiation_message.specs.declared.InitiationAnswer.{InitiationAnswer}
 use Rattle.initiation_message.specs.declared.InitiationTlvType.the-variants.{Unknown}
-use Rattle.initiation_message.specs.Shown.{refusedAnswer, shown, names, typeOf, kindOf}
+use Rattle.initiation_message.specs.Shown.{refusedAnswer, shown, names, typeOf, kindOf, infoOf}
 use Rattle.initiation_message.proofs.Laws.{faults, laws, tails}
 use Rattle.initiation_message.proofs.Shows.{shows-of, ViewAt}
 use Rattle.initiation_message.proofs.Told as ToldProofs
@@ -73,5 +76,18 @@ unfolding typeOf kindOf
 type-number n = number-of-name kindOf n (Unknown n) names refl (λ h. refl)
 
 -- ---- any two answers that the contracts allow are equal
+-- Two numbers that number may tell of the same name are equal.
+pub number-determined : (x : InitiationTlvType) (r q : ℕ) → r ≡ kindOf x → q ≡ kindOf x → r ≡ q
+number-determined x r q = determined
+
+-- Two names that info_type may tell of the same entry are equal.
+pub info-type-determined : (t : InitiationTlv) (r q : InitiationTlvType) → r ≡ typeOf (t .kind) → q ≡ typeOf (t .kind) → r ≡ q
+info-type-determined t r q = determined
+
+-- Two views that info may tell of the same entry are equal.
+pub info-determined : (t : InitiationTlv) (r q : View) → r ≡ infoOf t → q ≡ infoOf t → r ≡ q
+info-determined t r q = determined
+
+-- Two answers of the reader to the same bytes are equal.
 pub parse-determined : (s : List ℕ) (a b : InitiationAnswer) → a ≡ readInitiation s → b ≡ readInitiation s → a ≡ b
 parse-determined s a b = determined

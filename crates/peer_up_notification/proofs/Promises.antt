@@ -13,6 +13,7 @@ use Rattle.wire.specs.Exactly.{Sound, Complete, Told, Unique}
 use Rattle.wire.specs.Refusal.{refusal}
 use Rattle.wire.specs.Parts.{endFrom, joinAll}
 use Rattle.wire.specs.Tlv.{sizeOf}
+use Rattle.wire.specs.declared.View.{View}
 use Rattle.models.specs.Warnings.{countOnes}
 use Rattle.models.specs.declared.Afi.{Afi}
 use Rattle.models.specs.declared.Afi.the-variants.{Ipv4, Ipv6}
@@ -20,9 +21,11 @@ use Rattle.peer_type.specs.Peer.{kindOf, isLocRib}
 use Rattle.peer_type.specs.declared.BmpPeerType.{BmpPeerType}
 use Rattle.peer_up_notification.specs.Grammar.{Reading, join, Good, grammar, places, frontParts, joinMessages, widths, skippedFor, addressFor}
 use Rattle.peer_up_notification.specs.Warnings.{headOf, some, badTableName, noTableName, warnings}
-use Rattle.peer_up_notification.specs.Shown.{kindOf as numberOf, names, typeOf, shown, refusedAnswer, tlvsAt}
+use Rattle.peer_up_notification.specs.Shown.{kindOf as numberOf, names, typeOf, infoOf, shown, refusedAnswer, tlvsAt}
 use Rattle.peer_up_notification.specs.Read.{readPeerUp, reader}
 use Rattle.peer_up_notification.specs.declared.PeerUpAnswer.{PeerUpAnswer}
+use Rattle.peer_up_notification.specs.declared.PeerUpNotificationTlv.{PeerUpNotificationTlv}
+use Rattle.peer_up_notification.specs.declared.PeerUpTlvType.{PeerUpTlvType}
 use Rattle.peer_up_notification.specs.declared.PeerUpTlvType.the-variants.{Unknown}
 use Rattle.peer_up_notification.specs.Cuts.{CutIn}
 use Rattle.peer_up_notification.proofs.Sound.{accepted, reading-of, same-reading}
@@ -107,5 +110,18 @@ widths-are afi r g =
     (λ i. sixteen i ∷ 2 ∷ 2 ∷ [], sym (append-assoc (r .skipped) (r .address) (be 2 (r .localPort) ++ (be 2 (r .remotePort) ++ joinMessages r))))
 
 -- ---- any two answers that the contracts allow are equal
+-- Two numbers that number may tell of the same name are equal.
+pub number-determined : (x : PeerUpTlvType) (r q : ℕ) → r ≡ numberOf x → q ≡ numberOf x → r ≡ q
+number-determined x r q = determined
+
+-- Two names that info_type may tell of the same entry are equal.
+pub info-type-determined : (t : PeerUpNotificationTlv) (r q : PeerUpTlvType) → r ≡ typeOf (t .kind) → q ≡ typeOf (t .kind) → r ≡ q
+info-type-determined t r q = determined
+
+-- Two views that info_value may tell of the same entry are equal.
+pub info-value-determined : (t : PeerUpNotificationTlv) (r q : View) → r ≡ infoOf t → q ≡ infoOf t → r ≡ q
+info-value-determined t r q = determined
+
+-- Two answers of the reader to the same family, type of peer and bytes are equal.
 pub parse-determined : (afi : Afi) (peer : BmpPeerType) (s : List ℕ) (a b : PeerUpAnswer) → a ≡ readPeerUp afi peer s → b ≡ readPeerUp afi peer s → a ≡ b
 parse-determined afi peer s a b = determined

@@ -16,8 +16,11 @@ use Rattle.wire.specs.Bytes.{Bytes}
 use Rattle.wire.specs.Lacking.{CutAfter}
 use Rattle.route_mirroring.specs.Grammar.{Reading, join, Good, sizeOf, grammar, places, put, ReadTlv}
 use Rattle.route_mirroring.specs.Read.{kit, readMirroring, reader, answer, widthsIn}
+use Rattle.route_mirroring.specs.declared.RouteMirroringInfo.{RouteMirroringInfo}
+use Rattle.route_mirroring.specs.declared.RouteMirroringValue.{RouteMirroringValue}
+use Rattle.route_mirroring.specs.declared.RouteMirroringTlv.{RouteMirroringTlv}
 use Rattle.route_mirroring.specs.declared.RouteMirroringAnswer.{RouteMirroringAnswer}
-use Rattle.route_mirroring.specs.Shown.{infoOf, codeOf, refusedAnswer}
+use Rattle.route_mirroring.specs.Shown.{infoOf, codeOf, valueOf, refusedAnswer}
 use Rattle.route_mirroring.proofs.Laws.{faults, laws, tails}
 use Rattle.route_mirroring.proofs.Shows.{shows-of, ViewAt, code-told, view-at}
 use Rattle.route_mirroring.proofs.Told as ToldProofs
@@ -68,5 +71,14 @@ pub refuses-cut : (s : List ℕ) → Bytes s → readMirroring s .refusal .numbe
 refuses-cut = Cuts.refuses-cut
 
 -- ---- any two answers that the contracts allow are equal
+-- Two codes that code may tell of the same information are equal.
+pub code-determined : (x : RouteMirroringInfo) (r q : ℕ) → r ≡ codeOf x → q ≡ codeOf x → r ≡ q
+code-determined x r q = determined
+
+-- Two values that value may tell of the same entry are equal.
+pub value-determined : (t : RouteMirroringTlv) (r q : RouteMirroringValue) → r ≡ valueOf t → q ≡ valueOf t → r ≡ q
+value-determined t r q = determined
+
+-- Two answers of the reader to the same bytes are equal.
 pub parse-determined : (s : List ℕ) (a b : RouteMirroringAnswer) → a ≡ readMirroring s → b ≡ readMirroring s → a ≡ b
 parse-determined s a b = determined

@@ -19,11 +19,14 @@ use Rattle.wire.specs.Refuses.{Refuses}
 use Rattle.wire.specs.Exactly.{Shows, Sound, Complete, Told, Unique}
 use Rattle.wire.specs.Refusal.{refusal}
 use Rattle.wire.specs.Lacking.{CutAfter}
+use Rattle.stats_type.specs.Shown.{typeOf}
+use Rattle.stats_type.specs.declared.StatType.{StatType}
+use Rattle.stats_data.specs.declared.StatsData.{StatsData}
 use Rattle.stats_report.specs.Grammar.{Reading, join, Good, sizeOf, grammar, places, putStat, GoodStat}
 use Rattle.stats_report.specs.Read.{kit, readStats, reader, widthsIn}
 use Rattle.stats_report.specs.declared.StatCounter.{StatCounter}
 use Rattle.stats_report.specs.declared.StatsAnswer.{StatsAnswer}
-use Rattle.stats_report.specs.Shown.{refusedAnswer}
+use Rattle.stats_report.specs.Shown.{dataIn, refusedAnswer}
 use Rattle.stats_report.proofs.Laws.{faults, never, laws, behind}
 use Rattle.stats_report.proofs.Shows.{shows-of, count-of, ViewAt, view-at}
 use Rattle.stats_report.proofs.Told as ToldProofs
@@ -97,5 +100,14 @@ pub refuses-cut : (s : List ℕ) → Bytes s → readStats s .refusal .number �
 refuses-cut = Cuts.refuses-cut
 
 -- ---- any two answers that the contracts allow are equal
+-- Two names that stat_type may tell of the same counter are equal.
+pub stat-type-determined : (c : StatCounter) (r q : StatType) → r ≡ typeOf (c .kind) → q ≡ typeOf (c .kind) → r ≡ q
+stat-type-determined c r q = determined
+
+-- Two data that stat_data may tell of the same counter are equal.
+pub stat-data-determined : (c : StatCounter) (r q : StatsData) → r ≡ dataIn c → q ≡ dataIn c → r ≡ q
+stat-data-determined c r q = determined
+
+-- Two answers of the reader to the same bytes are equal.
 pub parse-determined : (s : List ℕ) (a b : StatsAnswer) → a ≡ readStats s → b ≡ readStats s → a ≡ b
 parse-determined s a b = determined
