@@ -124,12 +124,6 @@ number-is w s at h = rw (le-leb w (length s - at) h)
 pub number-none : (w : ℕ) (s : List ℕ) (at : ℕ) → length s - at < w → numberAt w s at ≡ 0
 number-none w s at h = rw (lt-leb w (length s - at) h)
 
-pub number-split : (w v : ℕ) (s : List ℕ) (at : ℕ) → at + (w + v) ≤ length s
-    → numberAt (w + v) s at ≡ numberAt w s at * 256 ^ v + numberAt v s (at + w)
-number-split w v s at h =
-    number-is (w + v) s at (omega arith) ∙ num-split w v s at h
-    ∙ sym (ap₂ (λ (m n : ℕ). m * 256 ^ v + n) (number-is w s at (omega arith)) (number-is v s (at + w) (omega arith)))
-
 -- ---- what was read, written again in front of what follows it: a number of w bytes, and n bytes as they are
 be-num : (w : ℕ) {s : List ℕ} (at : ℕ) → Bytes s → w ≤ length s - at → be w (numAt w s at) ≡ take w (drop at s)
 be-num w {s} at p h =
