@@ -1,12 +1,8 @@
 use borrow.Author.Needs.{needs}
-use borrow.Author.Tests.{lt-leb}
 use native.Mathlib.Omega.{arith}
 use denote.Ref.{now}
-use mathlib.Core.Path.{_≡_, sym, ap, _∙_}
-use Prim.Native.Nat.{_-_}
-use lib.ListN.{length}
-use Rattle.wire.specs.Refusal.{cutAt}
-use Rattle.cursor.specs.Read.{cut, fromU16}
+use mathlib.Core.Path.{sym, ap, _∙_}
+use Rattle.cursor.specs.Read.{fromU16}
 use Rattle.cursor.proofs.Reading.{Was, was-got, was-cut, was-in, tells16}
 use Rattle.tlv_head.proofs.Heads.{Head, was-found, was-short}
 use Rattle.termination_message.proofs.Steps.{brief-at, strange-at, beyond-at, string-at, lacking-at, unknown-at, known-at}
@@ -90,12 +86,8 @@ returns-6 c =
     let s = now (c .before .before .before .before .before .before .before .before .before .before .before .before .args .s) in
     let place = c .before .before .before .before .before .before .before .before .kind .given .0 .1 .1 .0 .at in
     let h = head-at (c .before .before .before .before .before .before .before) in
-    let answer-is = ap fromU16 (c .before .refusal .given .1) in
-    let told-is = tells16 _ (c .before .before .before .read-u16 .ensures) in
-    let few = was-cut 2 s place answer-is told-is in
-    let cut-is : cut (c .before .refusal .given .0 .0) ≡ cut (cutAt place) = sym answer-is ∙ told-is ∙ rw (lt-leb 2 (length s - place) few) in
-    let refusal-is : c .before .refusal .given .0 .0 ≡ cutAt place = cc in
-    ap Bad refusal-is ∙ sym (lacking-at _ _ (omega arith) _ (h .kind-is) _ (h .size-is) _ (h .next) (omega arith) (omega arith) few)
+    let lacked = was-cut 2 s place (ap fromU16 (c .before .refusal .given .1)) (tells16 _ (c .before .before .before .read-u16 .ensures)) in
+    ap Bad (lacked .cut-is) ∙ sym (lacking-at _ _ (omega arith) _ (h .kind-is) _ (h .size-is) _ (h .next) (omega arith) (omega arith) (lacked .few))
 
 returns-7 : tie.Need-returns-7
 returns-7 c =
