@@ -1,5 +1,7 @@
 // Writing the common header of a BMP message (RFC 7854, section 4.1).
 use common_header::BmpCommonHeader;
+use common_header::COMMON_HEADER;
+use common_header::VERSION;
 use writing::WriteAnswer;
 ghost use mathlib.Core.Path.{_≡_};
 ghost use Prim.Native.Nat.{_≤_};
@@ -8,11 +10,12 @@ ghost use lib.Seq.{sets};
 ghost use Rattle.writing.specs.Write.{writeAnswer, written};
 ghost use Rattle.common_header_writer.specs.Write.{writable, bytesOf};
 
+// Writes the header to the front of the output.
 pub fn write_bmp_common_header(header: BmpCommonHeader, out: &mut [u8]) -> WriteAnswer
     ensures { λ r. ⌜ r ≡ writeAnswer (writable header) (length (bytesOf header)) (length (now (out .entry))) ⌝ }
     ensures { λ _. ⌜ now (out .exit) ≡ written (writable header) (bytesOf header) (now (out .entry)) ⌝ }
 {
-    let answer = writing::write_answer(is_writable(header), 6, out.len());
+    let answer = writing::write_answer(is_writable(header), COMMON_HEADER, out.len());
     let WriteAnswer::Written(_) = answer else {
         return answer;
     };
@@ -23,10 +26,7 @@ pub fn write_bmp_common_header(header: BmpCommonHeader, out: &mut [u8]) -> Write
 fn is_writable(header: BmpCommonHeader) -> bool
     ensures { λ r. ⌜ r ≡ writable header ⌝ }
 {
-    if header.version != 3 {
-        return false;
-    }
-    true
+    header.version == VERSION
 }
 
 fn put_header(header: BmpCommonHeader, out: &mut [u8])

@@ -9,6 +9,7 @@ pub struct Cursor {
     pub at: usize,
 }
 
+// The number and the cursor behind it, or the Cut of a number that is not all there.
 pub enum ReadU8 {
     Good(u8, Cursor),
     Cut(Refusal),
@@ -30,6 +31,7 @@ pub enum ReadU64 {
 }
 
 impl Cursor {
+    // Reads one byte at the cursor.
     pub fn read_u8(self, s: &[u8]) -> ReadU8
         ensures { λ r. ⌜ r ≡ asU8 (read 1 (now (s .entry)) (self .at)) ⌝ }
     {
@@ -40,6 +42,7 @@ impl Cursor {
         }
     }
 
+    // Reads a number of two bytes at the cursor.
     pub fn read_u16(self, s: &[u8]) -> ReadU16
         ensures { λ r. ⌜ r ≡ asU16 (read 2 (now (s .entry)) (self .at)) ⌝ }
     {
@@ -50,6 +53,7 @@ impl Cursor {
         }
     }
 
+    // Reads a number of four bytes at the cursor.
     pub fn read_u32(self, s: &[u8]) -> ReadU32
         ensures { λ r. ⌜ r ≡ asU32 (read 4 (now (s .entry)) (self .at)) ⌝ }
     {
@@ -60,6 +64,7 @@ impl Cursor {
         }
     }
 
+    // Reads a number of eight bytes at the cursor.
     pub fn read_u64(self, s: &[u8]) -> ReadU64
         ensures { λ r. ⌜ r ≡ asU64 (read 8 (now (s .entry)) (self .at)) ⌝ }
     {

@@ -27,7 +27,7 @@ pub struct InitiationTlv {
 }
 
 pub struct InitiationMessage {
-    pub tlvs: [InitiationTlv; 32],
+    pub tlvs: [InitiationTlv; wire::TLV_PLACES],
     pub count: usize,
 }
 
@@ -88,6 +88,7 @@ impl InitiationTlv {
     }
 }
 
+// Reads the body of an Initiation message: its TLVs, up to 32, and where its tail starts.
 pub fn parse_initiation_message(s: &[u8]) -> InitiationAnswer
     ensures { λ r. ⌜ r ≡ readInitiation (now (s .entry)) ⌝ }
 {
@@ -95,14 +96,14 @@ pub fn parse_initiation_message(s: &[u8]) -> InitiationAnswer
         return refused(wire::refusal_at(wire::TOO_LONG, 0));
     }
     let zero = zero_tlv();
-    let mut tlvs = [zero; 32];
+    let mut tlvs = [zero; wire::TLV_PLACES];
     let mut count: usize = 0;
     let mut at: usize = 0;
     let stop = loop {
         match step_at(s, at) {
             Step::Stop(place) => break place,
             Step::Whole(kind, size, place, next) => {
-                if 32 <= count {
+                if wire::TLV_PLACES <= count {
                     return refused(wire::refusal_at(wire::TOO_MANY, at));
                 }
                 tlvs[count] = InitiationTlv {
@@ -168,7 +169,7 @@ fn refused(refusal: Refusal) -> InitiationAnswer
         stop: 0,
         tail: 0,
         message: InitiationMessage {
-            tlvs: [zero; 32],
+            tlvs: [zero; wire::TLV_PLACES],
             count: 0,
         },
     }

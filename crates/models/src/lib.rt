@@ -39,6 +39,7 @@ impl IpAddr {
         }
     }
 
+    // Whether family and all sixteen octets are the same.
     pub fn equals(self, other: IpAddr) -> bool
         ensures { λ r. ⌜ r ≡ sameAddress self other ⌝ }
     {

@@ -26,7 +26,7 @@ fn eight(s: &[u8], at: usize) -> u64
     (four(s, at) as u64) * 4_294_967_296 + (four(s, at + 4) as u64)
 }
 
-// The big-endian number at a place, 0 where not all of its bytes are there.
+// The byte at a place, 0 where there is none.
 pub fn u8_at(s: &[u8], at: usize) -> u8
     ensures { λ r. ⌜ r ≡ numberAt 1 (now (s .entry)) at ⌝ }
 {
@@ -36,6 +36,7 @@ pub fn u8_at(s: &[u8], at: usize) -> u8
     s[at]
 }
 
+// The number of two bytes at a place, 0 where not both are there.
 pub fn u16_at(s: &[u8], at: usize) -> u16
     ensures { λ r. ⌜ r ≡ numberAt 2 (now (s .entry)) at ⌝ }
 {
@@ -45,6 +46,7 @@ pub fn u16_at(s: &[u8], at: usize) -> u16
     two(s, at)
 }
 
+// The number of four bytes at a place, 0 where not all of them are there.
 pub fn u32_at(s: &[u8], at: usize) -> u32
     ensures { λ r. ⌜ r ≡ numberAt 4 (now (s .entry)) at ⌝ }
 {
@@ -54,6 +56,7 @@ pub fn u32_at(s: &[u8], at: usize) -> u32
     four(s, at)
 }
 
+// The number of eight bytes at a place, 0 where not all of them are there.
 pub fn u64_at(s: &[u8], at: usize) -> u64
     ensures { λ r. ⌜ r ≡ numberAt 8 (now (s .entry)) at ⌝ }
 {

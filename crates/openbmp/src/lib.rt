@@ -34,6 +34,7 @@ pub struct OpenBmpAnswer {
 // The letters OBMP.
 pub const MAGIC_NUMBER: u32 = 0x4F42_4D50;
 
+// The versions of the header that are read.
 pub const MAJOR_VERSION: u8 = 1;
 
 pub const MINOR_VERSION: u8 = 7;
@@ -41,11 +42,12 @@ pub const MINOR_VERSION: u8 = 7;
 // The object type of a raw BMP message, the one that is supported.
 pub const RAW_BMP: u8 = 12;
 
+// The flag of a message that came from a router, and that of a router address of IPv6.
 pub const IS_ROUTER_MSG: u8 = 0b1000_0000;
 
 pub const IS_ROUTER_IPV6: u8 = 0b0100_0000;
 
-// Each stage judges the number that it is given, and asks for the bytes of the next one that is judged or counts.
+// Reads the header at the front of the bytes. Each stage judges the number that it is given, and asks for the bytes of the next one that is judged or counts.
 pub fn parse_openbmp_header(s: &[u8]) -> OpenBmpAnswer
     ensures { λ r. ⌜ r ≡ readOpenBmpHeader (now (s .entry)) ⌝ }
 {
@@ -189,8 +191,8 @@ fn family(flags: u8) -> Afi
 }
 
 // The widths are those of all fields. A length that was not read yet is 0: its field stands behind the one that is cut.
-fn cut(length: usize, admin: usize, group: usize) -> OpenBmpAnswer
-    ensures { λ r. ⌜ r ≡ cut length admin group ⌝ }
+fn cut(there: usize, admin: usize, group: usize) -> OpenBmpAnswer
+    ensures { λ r. ⌜ r ≡ cut there admin group ⌝ }
 {
     let widths = [
         4usize,
@@ -211,17 +213,14 @@ fn cut(length: usize, admin: usize, group: usize) -> OpenBmpAnswer
         group,
         4,
     ];
-    refused(layout::cut_in(&widths, 0, length))
+    refused(layout::cut_in(&widths, 0, there))
 }
 
 // A refusal shows no header: all of it is zero.
 fn refused(refusal: Refusal) -> OpenBmpAnswer
     ensures { λ r. ⌜ r ≡ refused refusal ⌝ }
 {
-    let nothing = View {
-        place: 0,
-        length: 0,
-    };
+    let nothing = wire::no_view();
     let header = OpenBmpHeader {
         major_version: 0,
         minor_version: 0,

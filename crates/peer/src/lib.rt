@@ -23,12 +23,14 @@ pub struct BmpPerPeerHeader {
     pub microseconds: u32,
 }
 
+// The time of a header, or that the router does not know it: both words zero (RFC 7854, section 4.2).
 pub enum PeerTime {
     Unavailable,
     At(f64),
 }
 
 impl BmpPerPeerHeader {
+    // The family of the address that the header shows.
     pub fn afi(self) -> Afi
         ensures { λ r. ⌜ r ≡ afiOf self ⌝ }
     {
@@ -36,6 +38,7 @@ impl BmpPerPeerHeader {
         peer_ip.afi
     }
 
+    // How wide the AS numbers are; a Loc-RIB has no A flag, and they are wide.
     pub fn asn_length(self) -> AsnLength
         ensures { λ r. ⌜ r ≡ asnLengthOf self ⌝ }
     {

@@ -43,6 +43,7 @@ const IS_ADJ_RIB_OUT: u8 = 0b0001_0000;
 const IS_FILTERED: u8 = 0b1000_0000;
 
 impl PerPeerFlags {
+    // The V flag: the family of the peer's address. Of a Loc-RIB the same bit is the F flag.
     pub fn address_family(self) -> Afi
         ensures { λ r. ⌜ r ≡ addressFamily (self .0) ⌝ }
     {
@@ -52,12 +53,14 @@ impl PerPeerFlags {
         Afi::Ipv4
     }
 
+    // The L flag: whether the routes are those after the policy.
     pub fn is_post_policy(self) -> bool
         ensures { λ r. ⌜ r ≡ flagL (self .0) ⌝ }
     {
         self.0 & IS_POST_POLICY != 0
     }
 
+    // The A flag: how wide the AS numbers are.
     pub fn asn_length(self) -> AsnLength
         ensures { λ r. ⌜ r ≡ asnLength (self .0) ⌝ }
     {
@@ -67,12 +70,14 @@ impl PerPeerFlags {
         AsnLength::Bits32
     }
 
+    // The O flag: whether the routes are those of the Adj-RIB-Out (RFC 8671, section 4).
     pub fn is_adj_rib_out(self) -> bool
         ensures { λ r. ⌜ r ≡ flagO (self .0) ⌝ }
     {
         self.0 & IS_ADJ_RIB_OUT != 0
     }
 
+    // The F flag, which speaks of a Loc-RIB, type 3, alone: whether its routes are filtered (RFC 9069, section 4.2).
     pub fn is_filtered(self) -> bool
         ensures { λ r. ⌜ r ≡ flagF (self .0) ⌝ }
     {

@@ -4,16 +4,17 @@ use models::Afi;
 use models::IpAddr;
 use peer_type::BmpPeerType;
 use tlv_head::TlvHead;
+use wire::Need;
 use wire::Refusal;
 use wire::View;
 ghost use mathlib.Core.Path.{_≡_};
 ghost use mathlib.Core.Bool.{not, _||_};
 ghost use mathlib.Core.List.{[]};
-ghost use Prim.Native.Nat.{_+_, _≤_};
+ghost use Prim.Native.Nat.{_+_, _-_, _≤_};
 ghost use lib.Dec.{eqb, ltb};
 ghost use lib.ListN.{length};
 ghost use Rattle.wire.specs.Number as Number;
-ghost use Rattle.wire.specs.Bytes.{pick};
+ghost use Rattle.wire.specs.Bytes.{pick, numAt};
 ghost use Rattle.wire.specs.Walk.{readFrom};
 ghost use Rattle.layout.specs.Layout.{cutIn};
 ghost use Rattle.peer_up_notification.specs.Grammar.{widths};
@@ -43,7 +44,7 @@ pub struct PeerUpNotification {
     pub remote_port: u16,
     pub sent_open: View,
     pub received_open: View,
-    pub tlvs: [PeerUpNotificationTlv; 32],
+    pub tlvs: [PeerUpNotificationTlv; wire::TLV_PLACES],
     pub count: usize,
 }
 
@@ -54,6 +55,9 @@ pub struct PeerUpAnswer {
     pub warnings: u32,
     pub message: PeerUpNotification,
 }
+
+// Where the two OPENs start: behind the address and the ports.
+pub const OPENS_AT: usize = 20;
 
 // The type of a TLV that tells the name of a table.
 const TABLE_NAME: u16 = 3;
@@ -136,48 +140,52 @@ pub fn parse_peer_up_notification(s: &[u8], afi: Afi, peer_type: BmpPeerType) ->
     if wire::LIMIT < s.len() {
         return refused(wire::refusal_at(wire::TOO_LONG, 0));
     }
-    if s.len() < 20 {
+    if s.len() < OPENS_AT {
         return refused(cut(s.len()));
     }
-    match open_at(s, 20) {
+    match open_at(s, OPENS_AT) {
         Open::Broken(refusal) => refused(refusal),
         Open::Found(sent_open, next) => read_received(s, afi, peer_type, sent_open, next),
     }
 }
 
 // An address of 16 bytes is one field.
-fn cut(length: usize) -> Refusal
-    ensures { λ r. ⌜ r ≡ cutIn widths 0 length ⌝ }
+fn cut(there: usize) -> Refusal
+    ensures { λ r. ⌜ r ≡ cutIn widths 0 there ⌝ }
 {
     let widths = [16usize, 2, 2];
-    layout::cut_in(&widths, 0, length)
+    layout::cut_in(&widths, 0, there)
 }
 
-// A whole BGP message; that it has a BGP header is judged before how much is left of it.
+// A whole BGP message: the bytes of its header are asked for before those that its length says.
 fn open_at(s: &[u8], at: usize) -> Open
     ensures { λ r. ⌜ r ≡ openAt (now (s .entry)) at ⌝ }
 {
-    let left = wire::left(s, at);
-    if left < 19 {
-        return Open::Broken(wire::cut_at(at));
+    match wire::need_at(s.len(), at, wire::BGP_HEADER) {
+        Need::Cut(refusal) => Open::Broken(refusal),
+        Need::Met => message_at(s, at, numbers::u16_at(s, at + 16)),
     }
-    let size = numbers::u16_at(s, at + 16);
-    if size < 19 {
+}
+
+// A BGP message whose header is there and says this length.
+fn message_at(s: &[u8], at: usize, size: u16) -> Open
+    requires { ⌜ (19 ≤ length (now s) - at) × (numAt 2 (now s) (at + 16) ≡ size) ⌝ }
+    ensures { λ r. ⌜ r ≡ openAt (now (s .entry)) at ⌝ }
+{
+    let length = size as usize;
+    if length < wire::BGP_HEADER {
         return Open::Broken(wire::refusal_at(wire::BGP_LENGTH, at + 16));
     }
-    if left < (size as usize) {
-        return Open::Broken(wire::cut_at(at));
+    match wire::need_at(s.len(), at, length) {
+        Need::Cut(refusal) => Open::Broken(refusal),
+        Need::Met => {
+            let view = View {
+                place: at,
+                length: length,
+            };
+            Open::Found(view, Cursor { at: at + length })
+        }
     }
-    let view = View {
-        place: at,
-        length: size as usize,
-    };
-    Open::Found(
-        view,
-        Cursor {
-            at: at + (size as usize),
-        },
-    )
 }
 
 fn read_received(
@@ -221,7 +229,7 @@ fn read_tlvs(s: &[u8], peer_type: BmpPeerType, front: Front, start: Cursor) -> P
     ensures { λ r. ⌜ r ≡ withTlvs «peer_type» front (readFrom kit (length (now (s .entry))) (start .at) (now (s .entry))) ⌝ }
 {
     let zero = tlv_of(0, 0, 0);
-    let mut tlvs = [zero; 32];
+    let mut tlvs = [zero; wire::TLV_PLACES];
     let mut names = no_names();
     let mut count: usize = 0;
     let mut at = start.at;
@@ -230,7 +238,7 @@ fn read_tlvs(s: &[u8], peer_type: BmpPeerType, front: Front, start: Cursor) -> P
             Step::Stop(place) => break place,
             Step::Bad(refusal) => return refused(refusal),
             Step::Whole(kind, size, place, next) => {
-                if 32 <= count {
+                if wire::TLV_PLACES <= count {
                     return refused(wire::refusal_at(wire::TOO_MANY, at));
                 }
                 tlvs[count] = tlv_of(kind, size, place);
@@ -269,17 +277,18 @@ fn step_at(s: &[u8], at: usize) -> Step
         return Step::Stop(at);
     };
     let place = value.at;
-    if wire::left(s, place) < (size as usize) {
-        return Step::Bad(wire::cut_at(place));
+    let length = size as usize;
+    match wire::need_at(s.len(), place, length) {
+        Need::Cut(refusal) => Step::Bad(refusal),
+        Need::Met => Step::Whole(
+            kind,
+            size,
+            place as u32,
+            Cursor {
+                at: place + length,
+            },
+        ),
     }
-    Step::Whole(
-        kind,
-        size,
-        place as u32,
-        Cursor {
-            at: place + (size as usize),
-        },
-    )
 }
 
 fn tlv_of(kind: u16, info_len: u16, place: u32) -> PeerUpNotificationTlv
@@ -346,10 +355,7 @@ fn refused(refusal: Refusal) -> PeerUpAnswer
     ensures { λ r. ⌜ r ≡ refusedAnswer refusal ⌝ }
 {
     let zero = tlv_of(0, 0, 0);
-    let none = View {
-        place: 0,
-        length: 0,
-    };
+    let none = wire::no_view();
     PeerUpAnswer {
         refusal: refusal,
         stop: 0,
@@ -360,7 +366,7 @@ fn refused(refusal: Refusal) -> PeerUpAnswer
             remote_port: 0,
             sent_open: none,
             received_open: none,
-            tlvs: [zero; 32],
+            tlvs: [zero; wire::TLV_PLACES],
             count: 0,
         },
     }

@@ -30,7 +30,10 @@ pub struct PerPeerHeaderAnswer {
     pub header: BmpPerPeerHeader,
 }
 
-// The type is judged before the length, so that an unknown one is named even where more is missing; where there is no byte at
+// How many bytes the header takes.
+pub const PER_PEER_HEADER: usize = 42;
+
+// Reads the header at the front of the bytes. The type is judged before the length, so that an unknown one is named even where more is missing; where there is no byte at
 // all, u8_at gives 0 and the length refuses.
 pub fn parse_per_peer_header(s: &[u8]) -> PerPeerHeaderAnswer
     ensures { λ r. ⌜ r ≡ readPerPeerHeader (now (s .entry)) ⌝ }
@@ -41,18 +44,18 @@ pub fn parse_per_peer_header(s: &[u8]) -> PerPeerHeaderAnswer
     if peer_type::LOCAL_RIB < numbers::u8_at(s, 0) {
         return refused(wire::refusal_at(wire::UNKNOWN_KIND, 0));
     }
-    if s.len() < 42 {
+    if s.len() < PER_PEER_HEADER {
         return refused(cut(s.len()));
     }
     read_header(s)
 }
 
 // An address of 16 bytes is one field, and so is an AS of 4.
-fn cut(length: usize) -> Refusal
-    ensures { λ r. ⌜ r ≡ cutIn widths 0 length ⌝ }
+fn cut(there: usize) -> Refusal
+    ensures { λ r. ⌜ r ≡ cutIn widths 0 there ⌝ }
 {
     let widths = [1usize, 1, 8, 16, 4, 4, 4, 4];
-    layout::cut_in(&widths, 0, length)
+    layout::cut_in(&widths, 0, there)
 }
 
 // A refusal shows no header: all of it is zero, and its time unavailable.
@@ -102,7 +105,7 @@ fn read_header(s: &[u8]) -> PerPeerHeaderAnswer
     };
     PerPeerHeaderAnswer {
         refusal: wire::no_refusal(),
-        stop: 42,
+        stop: PER_PEER_HEADER,
         warnings: warnings_of(kind, address, id, distinguisher),
         header: header,
     }

@@ -3,6 +3,7 @@ use models::AsnLength;
 use models::IpAddr;
 use peer::BmpPerPeerHeader;
 use peer_type::PerPeerFlags;
+use per_peer_header::PER_PEER_HEADER;
 use writing::WriteAnswer;
 ghost use mathlib.Core.Path.{_≡_};
 ghost use mathlib.Core.Bool.{true};
@@ -16,11 +17,12 @@ ghost use Rattle.per_peer_header.specs.Shown.{shownAddress, shownAsn};
 ghost use Rattle.per_peer_header.specs.Read.{addressField, asField};
 ghost use Rattle.per_peer_header_writer.specs.Write.{writable, bytesOf};
 
+// Writes the header to the front of the output.
 pub fn write_per_peer_header(header: BmpPerPeerHeader, out: &mut [u8]) -> WriteAnswer
     ensures { λ r. ⌜ r ≡ writeAnswer (writable header) (length (bytesOf header)) (length (now (out .entry))) ⌝ }
     ensures { λ _. ⌜ now (out .exit) ≡ written (writable header) (bytesOf header) (now (out .entry)) ⌝ }
 {
-    let answer = writing::write_answer(is_writable(header), 42, out.len());
+    let answer = writing::write_answer(is_writable(header), PER_PEER_HEADER, out.len());
     let WriteAnswer::Written(_) = answer else {
         return answer;
     };

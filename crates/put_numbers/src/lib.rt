@@ -3,7 +3,7 @@ ghost use mathlib.Core.Path.{_≡_};
 ghost use Rattle.wire.specs.Bytes.{be};
 ghost use Rattle.writing.specs.Write.{putAt};
 
-// Puts the bytes of a big-endian number at a place; where they do not fit, nothing changes.
+// Puts a byte at a place; where it does not fit, nothing changes.
 pub fn put_u8(out: &mut [u8], at: usize, n: u8)
     ensures { λ _. ⌜ now (out .exit) ≡ putAt (now (out .entry)) at (be 1 n) ⌝ }
 {
@@ -11,6 +11,7 @@ pub fn put_u8(out: &mut [u8], at: usize, n: u8)
     writing::put_bytes(out, at, &bytes);
 }
 
+// Puts the two bytes of a number at a place, the most significant first; where they do not fit, nothing changes.
 pub fn put_u16(out: &mut [u8], at: usize, n: u16)
     ensures { λ _. ⌜ now (out .exit) ≡ putAt (now (out .entry)) at (be 2 n) ⌝ }
 {
@@ -18,6 +19,7 @@ pub fn put_u16(out: &mut [u8], at: usize, n: u16)
     writing::put_bytes(out, at, &bytes);
 }
 
+// Puts the four bytes of a number at a place; where they do not fit, nothing changes.
 pub fn put_u32(out: &mut [u8], at: usize, n: u32)
     ensures { λ _. ⌜ now (out .exit) ≡ putAt (now (out .entry)) at (be 4 n) ⌝ }
 {
@@ -28,6 +30,7 @@ pub fn put_u32(out: &mut [u8], at: usize, n: u32)
     put_u16(out, at + 2, (n % 65_536) as u16);
 }
 
+// Puts the eight bytes of a number at a place; where they do not fit, nothing changes.
 pub fn put_u64(out: &mut [u8], at: usize, n: u64)
     ensures { λ _. ⌜ now (out .exit) ≡ putAt (now (out .entry)) at (be 8 n) ⌝ }
 {

@@ -31,7 +31,7 @@ pub struct RouteMirroringTlv {
 }
 
 pub struct RouteMirroring {
-    pub tlvs: [RouteMirroringTlv; 32],
+    pub tlvs: [RouteMirroringTlv; wire::TLV_PLACES],
     pub count: usize,
 }
 
@@ -77,7 +77,7 @@ impl RouteMirroringTlv {
     }
 }
 
-// Reads the TLVs of a body into a table of 32.
+// Reads the body of a Route Mirroring message: its TLVs, up to 32.
 pub fn parse_route_mirroring(s: &[u8]) -> RouteMirroringAnswer
     ensures { λ r. ⌜ r ≡ readMirroring (now (s .entry)) ⌝ }
 {
@@ -85,7 +85,7 @@ pub fn parse_route_mirroring(s: &[u8]) -> RouteMirroringAnswer
         return refused(wire::refusal_at(wire::TOO_LONG, 0));
     }
     let zero = zero_tlv();
-    let mut tlvs = [zero; 32];
+    let mut tlvs = [zero; wire::TLV_PLACES];
     let mut count: usize = 0;
     let mut at: usize = 0;
     let stop = loop {
@@ -93,7 +93,7 @@ pub fn parse_route_mirroring(s: &[u8]) -> RouteMirroringAnswer
             Step::Stop(place) => break place,
             Step::Bad(refusal) => return refused(refusal),
             Step::Whole(kind, size, number, next) => {
-                if 32 <= count {
+                if wire::TLV_PLACES <= count {
                     return refused(wire::refusal_at(wire::TOO_MANY, at));
                 }
                 tlvs[count] = RouteMirroringTlv {
@@ -201,7 +201,7 @@ fn refused(refusal: Refusal) -> RouteMirroringAnswer
         refusal: refusal,
         stop: 0,
         message: RouteMirroring {
-            tlvs: [zero; 32],
+            tlvs: [zero; wire::TLV_PLACES],
             count: 0,
         },
     }

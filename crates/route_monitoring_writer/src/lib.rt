@@ -7,6 +7,7 @@ ghost use lib.ListN.{length};
 ghost use Rattle.writing.specs.Write.{writeAnswer, written};
 ghost use Rattle.route_monitoring_writer.specs.Write.{viewWritable, writable, bytesOf};
 
+// Writes the message, whose view points into the buffer, to the front of the output.
 pub fn write_route_monitoring(
     message: RouteMonitoring,
     buffer: &[u8],

@@ -12,8 +12,12 @@ ghost use Rattle.stats_type.specs.Shown.{typeOf};
 ghost use Rattle.stats_report.specs.Shown.{zeroCounter, dataIn, refusedAnswer};
 ghost use Rattle.stats_report.specs.Read.{headCut, stepAt, kit, answer, readStats};
 
+// How many counters the table of a report holds.
+pub const COUNTER_PLACES: usize = 64;
+
+// The counters, how many of them there are, and the count that the report says.
 pub struct StatsReport {
-    pub counters: [StatCounter; 64],
+    pub counters: [StatCounter; COUNTER_PLACES],
     pub count: usize,
     pub stats_count: u32,
 }
@@ -75,7 +79,7 @@ fn read_counters(s: &[u8], stats_count: u32, start: Cursor) -> StatsAnswer
     ensures { λ r. ⌜ r ≡ answer «stats_count» (readFrom kit «stats_count» (start .at) (now (s .entry))) ⌝ }
 {
     let zero = zero_counter();
-    let mut counters = [zero; 64];
+    let mut counters = [zero; COUNTER_PLACES];
     let mut count: usize = 0;
     let mut at = start.at;
     let stop = loop {
@@ -85,7 +89,7 @@ fn read_counters(s: &[u8], stats_count: u32, start: Cursor) -> StatsAnswer
         match step_at(s, at) {
             Step::Bad(refusal) => return refused(refusal),
             Step::Whole(kind, size, afi, safi, value, next) => {
-                if 64 <= count {
+                if COUNTER_PLACES <= count {
                     return refused(wire::refusal_at(wire::TOO_MANY, at));
                 }
                 counters[count] = StatCounter {
@@ -152,7 +156,7 @@ fn refused(refusal: Refusal) -> StatsAnswer
         refusal: refusal,
         stop: 0,
         report: StatsReport {
-            counters: [zero; 64],
+            counters: [zero; COUNTER_PLACES],
             count: 0,
             stats_count: 0,
         },

@@ -38,7 +38,7 @@ pub struct TerminationTlv {
 }
 
 pub struct TerminationMessage {
-    pub tlvs: [TerminationTlv; 32],
+    pub tlvs: [TerminationTlv; wire::TLV_PLACES],
     pub count: usize,
 }
 
@@ -108,7 +108,7 @@ pub fn parse_termination_message(s: &[u8]) -> TerminationAnswer
         return refused(wire::refusal_at(wire::TOO_LONG, 0));
     }
     let zero = zero_tlv();
-    let mut tlvs = [zero; 32];
+    let mut tlvs = [zero; wire::TLV_PLACES];
     let mut count: usize = 0;
     let mut at: usize = 0;
     let stop = loop {
@@ -116,7 +116,7 @@ pub fn parse_termination_message(s: &[u8]) -> TerminationAnswer
             Step::Stop(place) => break place,
             Step::Bad(refusal) => return refused(refusal),
             Step::Whole(kind, size, number, next) => {
-                if 32 <= count {
+                if wire::TLV_PLACES <= count {
                     return refused(wire::refusal_at(wire::TOO_MANY, at));
                 }
                 tlvs[count] = TerminationTlv {
@@ -203,7 +203,7 @@ fn refused(refusal: Refusal) -> TerminationAnswer
         stop: 0,
         tail: 0,
         message: TerminationMessage {
-            tlvs: [zero; 32],
+            tlvs: [zero; wire::TLV_PLACES],
             count: 0,
         },
     }

@@ -38,6 +38,9 @@ pub const LIMIT: usize = 1_048_576;
 // The fewest bytes of a BGP message: its header (RFC 4271, section 4.1).
 pub const BGP_HEADER: usize = 19;
 
+// How many TLVs the table of a body holds.
+pub const TLV_PLACES: usize = 32;
+
 // A number of the list above and the place of the field at fault; both are 0 in a good answer.
 pub struct Refusal {
     pub number: u8,

@@ -2,6 +2,8 @@ use borrow.Author.Needs.{needs}
 use native.Mathlib.Omega.{arith}
 use denote.Ref.{now}
 use mathlib.Core.Path.{sym, ap, _∙_}
+use lib.ListN.{length}
+use Rattle.wire.proofs.Needs.{was-met, was-cut}
 use Rattle.tlv_head.proofs.Heads.{Head, was-found, was-short}
 use Rattle.peer_up_notification.specs.declared.Step.the-variants.{Bad}
 use Rattle.peer_up_notification.proofs.Steps.{brief-at, cut-at, whole-at}
@@ -26,31 +28,46 @@ returns c =
     let h = was-short 0 (now (c .before .before .before .before .args .s)) (c .before .before .before .before .args .at) (c .enum-told .given .1) (c .before .before .read-head .ensures) in
     sym (brief-at (now (c .before .before .before .before .args .s)) (c .before .before .before .before .args .at) (omega arith))
 
-left-requires : tie.Need-left-requires
-left-requires c κs = search needs
+cast-length : tie.Need-cast-length
+cast-length c = search needs
 
-cast-if1 : tie.Need-cast-if1
-cast-if1 c = search needs
+need-at-requires : tie.Need-need-at-requires
+need-at-requires c κs = search needs
 
-cut-at-requires : tie.Need-cut-at-requires
-cut-at-requires c κs = search needs
+enum-known-refusal : tie.Need-enum-known-refusal
+enum-known-refusal c = search needs
+
+enum-told-2 : tie.Need-enum-told-2
+enum-told-2 c = search needs
+
+cast-t14 : tie.Need-cast-t14
+cast-t14 c =
+    let h = head-at (c .before .before .before) in
+    let place = c .before .before .before .before .kind .given .0 .1 .1 .0 .at in
+    let met = was-met (length (now (c .before .before .before .before .before .before .before .before .args .s))) place (c .before .before .before .before .kind .given .0 .1 .0) (c .enum-told2 .given .1) (c .before .before .need-at .ensures) in
+    omega (arith, c .before .before .before .before .before .before .before .before .pre)
+
+add-t15 : tie.Need-add-t15
+add-t15 c =
+    let place = c .before .before .before .before .kind .given .0 .1 .1 .0 .at in
+    let met = was-met (length (now (c .before .before .before .before .before .before .before .before .args .s))) place (c .before .before .before .before .kind .given .0 .1 .0) (c .enum-told2 .given .1) (c .before .before .need-at .ensures) in
+    search needs
 
 returns-2 : tie.Need-returns-2
 returns-2 c =
-    let h = head-at (c .before .before .before) in
-    ap Bad (c .cut-at .ensures) ∙ sym (cut-at (now (c .before .before .before .before .before .before .before .before .args .s)) (c .before .before .before .before .before .before .before .before .args .at) (omega arith) _ (h .size-is) _ (h .next) (omega arith))
-
-cast-t13 : tie.Need-cast-t13
-cast-t13 c = let h = head-at (c .before .before) in omega (arith, c .before .before .before .before .before .before .before .pre)
-
-cast-t9 : tie.Need-cast-t9
-cast-t9 c = search needs
-
-add-t10 : tie.Need-add-t10
-add-t10 c = search needs
+    let s = now (c .before .before .before .before .before .before .before .before .before .args .s) in
+    let h = head-at (c .before .before .before .before) in
+    let place = c .before .before .before .before .before .kind .given .0 .1 .1 .0 .at in
+    let lacked = was-cut (length s) place (c .before .before .before .before .before .kind .given .0 .1 .0) (c .before .refusal .given .1) (c .before .before .before .need-at .ensures) in
+    ap Bad (lacked .cut-is) ∙ sym (cut-at s (c .before .before .before .before .before .before .before .before .before .args .at) (omega arith) _ (h .size-is) _ (h .next) (lacked .few))
 
 returns-3 : tie.Need-returns-3
-returns-3 c = let h = head-at (c .before .before) in sym (whole-at _ _ (omega arith) _ (h .size-is) _ (h .next) _ (h .kind-is) (omega arith))
+returns-3 c =
+    let s = now (c .before .before .before .before .before .before .before .before .args .s) in
+    let h = head-at (c .before .before .before) in
+    let place = c .before .before .before .before .kind .given .0 .1 .1 .0 .at in
+    let met = was-met (length s) place (c .before .before .before .before .kind .given .0 .1 .0) (c .enum-told2 .given .1) (c .before .before .need-at .ensures) in
+    sym (whole-at s (c .before .before .before .before .before .before .before .before .args .at) (omega arith) _ (h .size-is) _ (h .next) _ (h .kind-is) met)
 
 pub step-at-spec : {M : Type 1} → statement M
 step-at-spec =
@@ -60,11 +77,11 @@ step-at-spec =
     enum-known-kind
     enum-told
     returns
-    left-requires
-    cast-if1
-    cut-at-requires
+    cast-length
+    need-at-requires
+    enum-known-refusal
+    enum-told-2
+    cast-t14
+    add-t15
     returns-2
-    cast-t13
-    cast-t9
-    add-t10
     returns-3)

@@ -1,7 +1,6 @@
 use borrow.Author.Needs.{needs}
 use denote.Ref.{now}
-use mathlib.Core.Path.{_≡_, refl, sym, ap, _∙_}
-use Rattle.wire.specs.Number as Number
+use mathlib.Core.Path.{sym, ap, _∙_}
 use Rattle.common_header.specs.Shown.{refusalOf}
 use Rattle.common_header.proofs.Laws.{accepted}
 use Rattle.common_header.specs.declared.CommonHeaderAnswer.{CommonHeaderAnswer}
