@@ -78,10 +78,9 @@ typedef struct {
     uint8_t type, flags;
     uint64_t distinguisher;
     Ip ip;
-    uint32_t asn, id, seconds, microseconds;
+    uint32_t asn, id, seconds, microseconds, warnings;
     double timestamp;
     size_t stop;
-    uint32_t warnings;
 } Peer;
 
 static Refusal read_peer(const uint8_t *s, size_t n, Peer *a) {
@@ -90,16 +89,12 @@ static Refusal read_peer(const uint8_t *s, size_t n, Peer *a) {
     if (n > LIMIT) return refused(TOO_LONG, 0);
     if (n && s[0] > LOC_RIB) return refused(UNKNOWN_KIND, 0);
     if (n < 42) return cut_in(widths, 8, n);
-    a->type = s[0];
-    a->flags = s[1];
+    a->type = s[0], a->flags = s[1];
     a->distinguisher = be64(s + 2);
-    a->asn = be32(s + 26);
-    a->id = be32(s + 30);
-    a->seconds = be32(s + 34);
-    a->microseconds = be32(s + 38);
+    a->asn = be32(s + 26), a->id = be32(s + 30);
+    a->seconds = be32(s + 34), a->microseconds = be32(s + 38);
     a->timestamp = time_of(a->seconds, a->microseconds);
-    a->stop = 42;
-    a->warnings = 0;
+    a->stop = 42, a->warnings = 0;
     memset(&a->ip, 0, sizeof a->ip);
     if (a->type == LOC_RIB) {
         a->warnings = (memcmp(s + 10, zeros, 16) != 0) + (a->id == 0 && a->distinguisher != 0 ? 2 : 0);
@@ -128,13 +123,9 @@ static Refusal cut_openbmp(size_t n, size_t admin, size_t group) {
 }
 
 static void fill_openbmp(const uint8_t *s, size_t admin, size_t group, OpenBmp *a) {
-    a->major = s[4];
-    a->minor = s[5];
-    a->type = s[13];
-    a->header_len = be16(s + 6);
-    a->msg_len = be32(s + 8);
-    a->seconds = be32(s + 14);
-    a->microseconds = be32(s + 18);
+    a->major = s[4], a->minor = s[5], a->type = s[13];
+    a->header_len = be16(s + 6), a->msg_len = be32(s + 8);
+    a->seconds = be32(s + 14), a->microseconds = be32(s + 18);
     a->timestamp = time_of(a->seconds, a->microseconds);
     a->admin = (View){40, admin};
     a->group = (View){74 + admin, group};
@@ -191,9 +182,7 @@ static Refusal read_stats(const uint8_t *s, size_t n, Stats *a) {
         }
         at += 4 + length;
     }
-    a->count = count;
-    a->stats_count = wanted;
-    a->stop = at;
+    a->count = count, a->stats_count = wanted, a->stop = at;
     return good;
 }
 
@@ -214,9 +203,7 @@ static Refusal read_initiation(const uint8_t *s, size_t n, Tlvs *a) {
         a->tlvs[count] = (Tlv){kind, length, at + 4};
         at += 4 + length;
     }
-    a->count = count;
-    a->stop = stop;
-    a->tail = at;
+    a->count = count, a->stop = stop, a->tail = at;
     return good;
 }
 
@@ -241,9 +228,7 @@ static Refusal read_termination(const uint8_t *s, size_t n, Tlvs *a) {
         a->tlvs[count] = (Tlv){kind, length, number};
         at += 4 + size;
     }
-    a->count = count;
-    a->stop = stop;
-    a->tail = at;
+    a->count = count, a->stop = stop, a->tail = at;
     return good;
 }
 
@@ -267,8 +252,7 @@ static Refusal read_mirroring(const uint8_t *s, size_t n, Tlvs *a) {
         a->tlvs[count] = (Tlv){kind, length, number};
         at += 4 + size;
     }
-    a->count = count;
-    a->stop = a->tail = at;
+    a->count = count, a->stop = a->tail = at;
     return good;
 }
 
@@ -306,8 +290,7 @@ static Refusal read_up_tlvs(const uint8_t *s, size_t n, size_t at, uint8_t type,
         bad |= kind == 3 && (length == 0 || length > 255);
         at += 4 + length;
     }
-    a->list.count = count;
-    a->list.stop = at;
+    a->list.count = count, a->list.stop = at;
     a->warnings = type == LOC_RIB ? (bad ? 8 : 0) + (named ? 0 : 16) : 0;
     return good;
 }
@@ -324,8 +307,7 @@ static Refusal read_peer_up(const uint8_t *s, size_t n, int v6, uint8_t type, Pe
     a->local.v6 = v6;
     if (v6) memcpy(a->local.octets, s, 16);
     else memcpy(a->local.octets + 12, s + 12, 4);
-    a->local_port = be16(s + 16);
-    a->remote_port = be16(s + 18);
+    a->local_port = be16(s + 16), a->remote_port = be16(s + 18);
     return read_up_tlvs(s, n, 20 + a->sent.length + a->received.length, type, a);
 }
 
@@ -362,23 +344,19 @@ static uint64_t of_peer(const Peer *a) {
     return mix(mix(h, a->seconds), a->microseconds);
 }
 
-uint64_t c_common(const uint8_t *s, size_t n) {
-    Common a;
-    READ(read_common(s, n, &a));
-    return mix(mix(a.stop, a.length), a.kind);
-}
+#define READER(name, Record, call, folded) \
+    uint64_t c_##name(const uint8_t *s, size_t n) { \
+        Record a; \
+        READ(call); \
+        return folded; \
+    }
 
-uint64_t c_split(const uint8_t *s, size_t n) {
-    Common a;
-    READ(split(s, n, &a));
-    return mix(mix(with_view(0, (View){0, a.length}), a.length), a.kind);
-}
-
-uint64_t c_perpeer(const uint8_t *s, size_t n) {
-    Peer a;
-    READ(read_peer(s, n, &a));
-    return of_peer(&a);
-}
+READER(common, Common, read_common(s, n, &a), mix(mix(a.stop, a.length), a.kind))
+READER(split, Common, split(s, n, &a), mix(mix(with_view(0, (View){0, a.length}), a.length), a.kind))
+READER(perpeer, Peer, read_peer(s, n, &a), of_peer(&a))
+READER(initiation, Tlvs, read_initiation(s, n, &a), with_tlvs(mix(a.stop, a.tail), &a))
+READER(termination, Tlvs, read_termination(s, n, &a), with_tlvs(mix(a.stop, a.tail), &a))
+READER(mirroring, Tlvs, read_mirroring(s, n, &a), with_tlvs(a.stop, &a))
 
 uint64_t c_openbmp(const uint8_t *s, size_t n) {
     OpenBmp a;
@@ -399,24 +377,6 @@ uint64_t c_stats(const uint8_t *s, size_t n) {
     return h;
 }
 
-uint64_t c_initiation(const uint8_t *s, size_t n) {
-    Tlvs a;
-    READ(read_initiation(s, n, &a));
-    return with_tlvs(mix(a.stop, a.tail), &a);
-}
-
-uint64_t c_termination(const uint8_t *s, size_t n) {
-    Tlvs a;
-    READ(read_termination(s, n, &a));
-    return with_tlvs(mix(a.stop, a.tail), &a);
-}
-
-uint64_t c_mirroring(const uint8_t *s, size_t n) {
-    Tlvs a;
-    READ(read_mirroring(s, n, &a));
-    return with_tlvs(a.stop, &a);
-}
-
 static uint64_t of_monitoring(const uint8_t *s, size_t n, int short_as, uint8_t type) {
     Monitoring a;
     READ(read_monitoring(s, n, short_as, type, &a));
@@ -434,7 +394,6 @@ static uint64_t of_peer_up(const uint8_t *s, size_t n, int v6, uint8_t type) {
 }
 
 uint64_t c_peerup(const uint8_t *s, size_t n) { return of_peer_up(s, n, 0, 0); }
-uint64_t c_peerup_locrib(const uint8_t *s, size_t n) { return of_peer_up(s, n, 0, LOC_RIB); }
 
 uint64_t c_peerdown(const uint8_t *s, size_t n) {
     PeerDown a;
@@ -478,8 +437,7 @@ static uint8_t answer_of(uint8_t kind, const uint8_t *s, size_t n) {
     if (kind == TERMINATION) return read_termination(s, n, &a.tlvs).number;
     uint8_t number = read_peer(s, n, &p).number;
     if (number) return number;
-    s += 42;
-    n -= 42;
+    s += 42, n -= 42;
     switch (kind) {
     case MONITORING: return read_monitoring(s, n, 0, p.type, &a.monitoring).number;
     case STATISTICS: return read_stats(s, n, &a.stats).number;
@@ -547,9 +505,8 @@ uint64_t c_write_common(const uint8_t *s, size_t n, uint8_t *o, size_t room) {
     Common a;
     READ(read_common(s, n, &a));
     READ(room_for(a.version == 3, 6, room));
-    o[0] = a.version;
+    o[0] = a.version, o[5] = a.kind;
     put32(o + 1, a.length);
-    o[5] = a.kind;
     return 6;
 }
 
@@ -565,14 +522,11 @@ uint64_t c_write_perpeer(const uint8_t *s, size_t n, uint8_t *o, size_t room) {
     Peer a;
     READ(read_peer(s, n, &a));
     READ(room_for(peer_writable(&a), 42, room));
-    o[0] = a.type;
-    o[1] = a.flags;
+    o[0] = a.type, o[1] = a.flags;
     put64(o + 2, a.distinguisher);
     memcpy(o + 10, a.ip.octets, 16);
-    put32(o + 26, a.asn);
-    put32(o + 30, a.id);
-    put32(o + 34, a.seconds);
-    put32(o + 38, a.microseconds);
+    put32(o + 26, a.asn), put32(o + 30, a.id);
+    put32(o + 34, a.seconds), put32(o + 38, a.microseconds);
     return 42;
 }
 
@@ -590,14 +544,9 @@ uint64_t c_write_openbmp(const uint8_t *s, size_t n, uint8_t *o, size_t room) {
     size_t admin = a.admin.length, group = a.group.length, length = 78 + admin + group;
     READ(room_for(openbmp_writable(&a, n), length, room));
     put32(o, 0x4F424D50);
-    o[4] = 1;
-    o[5] = 7;
-    put16(o + 6, a.header_len);
-    put32(o + 8, a.msg_len);
-    o[12] = a.ip.v6 ? 0xc0 : 0x80;
-    o[13] = 12;
-    put32(o + 14, a.seconds);
-    put32(o + 18, a.microseconds);
+    o[4] = 1, o[5] = 7, o[12] = a.ip.v6 ? 0xc0 : 0x80, o[13] = 12;
+    put16(o + 6, a.header_len), put32(o + 8, a.msg_len);
+    put32(o + 14, a.seconds), put32(o + 18, a.microseconds);
     memset(o + 22, 0, 16);
     put16(o + 38, admin);
     memcpy(o + 40, s + a.admin.place, admin);
@@ -617,16 +566,11 @@ static int counter_writable(const Counter *c, size_t n) {
 }
 
 static void put_counter(uint8_t *o, const Counter *c, const uint8_t *s) {
-    put16(o, c->kind);
-    put16(o + 2, c->length);
+    put16(o, c->kind), put16(o + 2, c->length);
     switch (c->length) {
     case 4: put32(o + 4, c->value); break;
     case 8: put64(o + 4, c->value); break;
-    case 11:
-        put16(o + 4, c->afi);
-        o[6] = c->safi;
-        put64(o + 7, c->value);
-        break;
+    case 11: put16(o + 4, c->afi), o[6] = c->safi, put64(o + 7, c->value); break;
     default: memcpy(o + 4, s + c->value, c->length);
     }
 }
@@ -672,8 +616,7 @@ static uint64_t write_tlvs(const Tlvs *a, Rule rule, size_t front, int ok, const
     o += front;
     for (size_t i = 0; i < a->count; i++) {
         const Tlv *t = &a->tlvs[i];
-        put16(o, t->kind);
-        put16(o + 2, t->length);
+        put16(o, t->kind), put16(o + 2, t->length);
         if (rule.codes && t->kind == 1) put16(o + 4, t->number);
         else memcpy(o + 4, s + t->number, t->length);
         o += 4 + t->length;
@@ -681,23 +624,16 @@ static uint64_t write_tlvs(const Tlvs *a, Rule rule, size_t front, int ok, const
     return length;
 }
 
-uint64_t c_write_initiation(const uint8_t *s, size_t n, uint8_t *o, size_t room) {
-    Tlvs a;
-    READ(read_initiation(s, n, &a));
-    return write_tlvs(&a, (Rule){0, 0, 0, 0}, 0, 1, s, n, o, room);
-}
+#define TLV_WRITER(name, ...) \
+    uint64_t c_write_##name(const uint8_t *s, size_t n, uint8_t *o, size_t room) { \
+        Tlvs a; \
+        READ(read_##name(s, n, &a)); \
+        return write_tlvs(&a, (Rule){__VA_ARGS__}, 0, 1, s, n, o, room); \
+    }
 
-uint64_t c_write_termination(const uint8_t *s, size_t n, uint8_t *o, size_t room) {
-    Tlvs a;
-    READ(read_termination(s, n, &a));
-    return write_tlvs(&a, (Rule){1, 4, 0, 0}, 0, 1, s, n, o, room);
-}
-
-uint64_t c_write_mirroring(const uint8_t *s, size_t n, uint8_t *o, size_t room) {
-    Tlvs a;
-    READ(read_mirroring(s, n, &a));
-    return write_tlvs(&a, (Rule){1, 1, 19, 1}, 0, 1, s, n, o, room);
-}
+TLV_WRITER(initiation, 0, 0, 0, 0)
+TLV_WRITER(termination, 1, 4, 0, 0)
+TLV_WRITER(mirroring, 1, 1, 19, 1)
 
 uint64_t c_write_monitoring(const uint8_t *s, size_t n, uint8_t *o, size_t room) {
     Monitoring a;
@@ -719,8 +655,7 @@ uint64_t c_write_peerup(const uint8_t *s, size_t n, uint8_t *o, size_t room) {
     uint64_t written = write_tlvs(&a.list, (Rule){0, 0, 0, 1}, front, ok, s, n, o, room);
     if (written >> 63) return written;
     memcpy(o, a.local.octets, 16);
-    put16(o + 16, a.local_port);
-    put16(o + 18, a.remote_port);
+    put16(o + 16, a.local_port), put16(o + 18, a.remote_port);
     memcpy(o + 20, s + a.sent.place, a.sent.length);
     memcpy(o + 20 + a.sent.length, s + a.received.place, a.received.length);
     return written;

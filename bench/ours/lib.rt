@@ -1,4 +1,4 @@
-// Our readers and writers behind C functions, for bench/run. Each reads, looks at the refusal first, as every caller does, and folds what was
+// Our readers and writers, for bench/run, which makes a C function of each public one. Each reads, looks at the refusal first, as every caller does, and folds what was
 // read into one number, so that no part of a record can be left out. Entries are read where they stand in the answer: a table that is first
 // taken out of it is copied, and the copy would be measured. This crate is compiled and not proved.
 use common_header::BmpCommonHeader;
@@ -53,16 +53,14 @@ fn with_header(h: u64, header: BmpCommonHeader) -> u64 {
     mix(mix(h, header.msg_len as u64), common_header::kind_of(msg_type) as u64)
 }
 
-#[no_mangle]
-pub extern "C" fn common(s: &[u8]) -> u64 {
+pub fn common(s: &[u8]) -> u64 {
     match common_header::parse_bmp_common_header(s) {
         CommonHeaderAnswer::Good(header, stop) => with_header(stop as u64, header),
         CommonHeaderAnswer::Refused(refusal) => of_refusal(refusal),
     }
 }
 
-#[no_mangle]
-pub extern "C" fn split(s: &[u8]) -> u64 {
+pub fn split(s: &[u8]) -> u64 {
     match splitter::split_message(s) {
         SplitAnswer::Message(header, view) => with_header(with_view(0, view), header),
         SplitAnswer::Refused(refusal) => of_refusal(refusal),
@@ -79,23 +77,19 @@ fn with_peer(h: u64, header: BmpPerPeerHeader) -> u64 {
     mix(mix(d, header.seconds as u64), header.microseconds as u64)
 }
 
-#[no_mangle]
-pub extern "C" fn perpeer(s: &[u8]) -> u64 {
+pub fn perpeer(s: &[u8]) -> u64 {
     let answer = per_peer_header::parse_per_peer_header(s);
-    let refusal = answer.refusal;
-    if refusal.number != wire::GOOD {
-        return of_refusal(refusal);
+    if answer.refusal.number != wire::GOOD {
+        return of_refusal(answer.refusal);
     }
     let header = answer.header;
     with_peer(mix(answer.stop as u64, answer.warnings as u64), header)
 }
 
-#[no_mangle]
-pub extern "C" fn openbmp(s: &[u8]) -> u64 {
+pub fn openbmp(s: &[u8]) -> u64 {
     let answer = openbmp::parse_openbmp_header(s);
-    let refusal = answer.refusal;
-    if refusal.number != wire::GOOD {
-        return of_refusal(refusal);
+    if answer.refusal.number != wire::GOOD {
+        return of_refusal(answer.refusal);
     }
     let header = answer.header;
     let admin_id = header.admin_id;
@@ -109,12 +103,10 @@ pub extern "C" fn openbmp(s: &[u8]) -> u64 {
 
 // ---- bodies
 
-#[no_mangle]
-pub extern "C" fn stats(s: &[u8]) -> u64 {
+pub fn stats(s: &[u8]) -> u64 {
     let answer = stats_report::parse_stats_report(s);
-    let refusal = answer.refusal;
-    if refusal.number != wire::GOOD {
-        return of_refusal(refusal);
+    if answer.refusal.number != wire::GOOD {
+        return of_refusal(answer.refusal);
     }
     let mut h = mix(answer.stop as u64, answer.report.stats_count as u64);
     let count = answer.report.count;
@@ -128,12 +120,10 @@ pub extern "C" fn stats(s: &[u8]) -> u64 {
     h
 }
 
-#[no_mangle]
-pub extern "C" fn initiation(s: &[u8]) -> u64 {
+pub fn initiation(s: &[u8]) -> u64 {
     let answer = initiation_message::parse_initiation_message(s);
-    let refusal = answer.refusal;
-    if refusal.number != wire::GOOD {
-        return of_refusal(refusal);
+    if answer.refusal.number != wire::GOOD {
+        return of_refusal(answer.refusal);
     }
     let mut h = mix(answer.stop as u64, answer.tail as u64);
     let count = answer.message.count;
@@ -146,12 +136,10 @@ pub extern "C" fn initiation(s: &[u8]) -> u64 {
     h
 }
 
-#[no_mangle]
-pub extern "C" fn termination(s: &[u8]) -> u64 {
+pub fn termination(s: &[u8]) -> u64 {
     let answer = termination_message::parse_termination_message(s);
-    let refusal = answer.refusal;
-    if refusal.number != wire::GOOD {
-        return of_refusal(refusal);
+    if answer.refusal.number != wire::GOOD {
+        return of_refusal(answer.refusal);
     }
     let mut h = mix(answer.stop as u64, answer.tail as u64);
     let count = answer.message.count;
@@ -164,12 +152,10 @@ pub extern "C" fn termination(s: &[u8]) -> u64 {
     h
 }
 
-#[no_mangle]
-pub extern "C" fn mirroring(s: &[u8]) -> u64 {
+pub fn mirroring(s: &[u8]) -> u64 {
     let answer = route_mirroring::parse_route_mirroring(s);
-    let refusal = answer.refusal;
-    if refusal.number != wire::GOOD {
-        return of_refusal(refusal);
+    if answer.refusal.number != wire::GOOD {
+        return of_refusal(answer.refusal);
     }
     let mut h = answer.stop as u64;
     let count = answer.message.count;
@@ -192,16 +178,14 @@ fn of_monitoring(answer: RouteMonitoringAnswer) -> u64 {
     }
 }
 
-#[no_mangle]
-pub extern "C" fn monitoring(s: &[u8]) -> u64 {
+pub fn monitoring(s: &[u8]) -> u64 {
     of_monitoring(route_monitoring::parse_route_monitoring(s, AsnLength::Bits32, BmpPeerType::Global))
 }
 
 fn of_peer_up(s: &[u8], afi: Afi, peer_type: BmpPeerType) -> u64 {
     let answer = peer_up_notification::parse_peer_up_notification(s, afi, peer_type);
-    let refusal = answer.refusal;
-    if refusal.number != wire::GOOD {
-        return of_refusal(refusal);
+    if answer.refusal.number != wire::GOOD {
+        return of_refusal(answer.refusal);
     }
     let local_addr = answer.message.local_addr;
     let sent = answer.message.sent_open;
@@ -219,14 +203,8 @@ fn of_peer_up(s: &[u8], afi: Afi, peer_type: BmpPeerType) -> u64 {
     h
 }
 
-#[no_mangle]
-pub extern "C" fn peerup(s: &[u8]) -> u64 {
+pub fn peerup(s: &[u8]) -> u64 {
     of_peer_up(s, Afi::Ipv4, BmpPeerType::Global)
-}
-
-#[no_mangle]
-pub extern "C" fn peerup_locrib(s: &[u8]) -> u64 {
-    of_peer_up(s, Afi::Ipv4, BmpPeerType::LocalRib)
 }
 
 fn of_reason(reason: PeerDownReason) -> u64 {
@@ -241,8 +219,7 @@ fn of_reason(reason: PeerDownReason) -> u64 {
     }
 }
 
-#[no_mangle]
-pub extern "C" fn peerdown(s: &[u8]) -> u64 {
+pub fn peerdown(s: &[u8]) -> u64 {
     match peer_down_notification::parse_peer_down_notification(s) {
         PeerDownAnswer::Good(notification, stop) => {
             let reason = notification.reason;
@@ -261,8 +238,7 @@ pub extern "C" fn peerdown(s: &[u8]) -> u64 {
 
 // Splits one message off, reads its headers and its body, adds what was read to the sum and answers the message's length, 0 where there is
 // none. The length does not wait for the rest, so that a walk over a stream can begin the next message.
-#[no_mangle]
-pub extern "C" fn message(s: &[u8], sum: &mut u64) -> u64 {
+pub fn message(s: &[u8], sum: &mut u64) -> u64 {
     match splitter::split_message(s) {
         SplitAnswer::Refused(_) => 0,
         SplitAnswer::Message(header, view) => {
@@ -284,9 +260,8 @@ fn of_message(msg_type: BmpMsgType, rest: &[u8]) -> u64 {
 
 fn of_peer_message(msg_type: BmpMsgType, rest: &[u8]) -> u64 {
     let answer = per_peer_header::parse_per_peer_header(rest);
-    let refusal = answer.refusal;
-    if refusal.number != wire::GOOD {
-        return of_refusal(refusal);
+    if answer.refusal.number != wire::GOOD {
+        return of_refusal(answer.refusal);
     }
     let header = answer.header;
     let h = with_peer(mix(answer.stop as u64, answer.warnings as u64), header);
@@ -304,8 +279,7 @@ fn of_body(msg_type: BmpMsgType, header: BmpPerPeerHeader, body: &[u8]) -> u64 {
     }
 }
 
-#[no_mangle]
-pub extern "C" fn list(s: &[u8], out: &mut [u8]) -> u64 {
+pub fn list(s: &[u8], out: &mut [u8]) -> u64 {
     of_written(listing::list_messages(s, out))
 }
 
@@ -318,94 +292,77 @@ fn of_written(answer: WriteAnswer) -> u64 {
     }
 }
 
-#[no_mangle]
-pub extern "C" fn write_common(s: &[u8], out: &mut [u8]) -> u64 {
+pub fn write_common(s: &[u8], out: &mut [u8]) -> u64 {
     match common_header::parse_bmp_common_header(s) {
         CommonHeaderAnswer::Good(header, _) => of_written(common_header_writer::write_bmp_common_header(header, out)),
         CommonHeaderAnswer::Refused(refusal) => of_refusal(refusal),
     }
 }
 
-#[no_mangle]
-pub extern "C" fn write_perpeer(s: &[u8], out: &mut [u8]) -> u64 {
+pub fn write_perpeer(s: &[u8], out: &mut [u8]) -> u64 {
     let answer = per_peer_header::parse_per_peer_header(s);
-    let refusal = answer.refusal;
-    if refusal.number != wire::GOOD {
-        return of_refusal(refusal);
+    if answer.refusal.number != wire::GOOD {
+        return of_refusal(answer.refusal);
     }
     of_written(per_peer_header_writer::write_per_peer_header(answer.header, out))
 }
 
-#[no_mangle]
-pub extern "C" fn write_openbmp(s: &[u8], out: &mut [u8]) -> u64 {
+pub fn write_openbmp(s: &[u8], out: &mut [u8]) -> u64 {
     let answer = openbmp::parse_openbmp_header(s);
-    let refusal = answer.refusal;
-    if refusal.number != wire::GOOD {
-        return of_refusal(refusal);
+    if answer.refusal.number != wire::GOOD {
+        return of_refusal(answer.refusal);
     }
     of_written(openbmp_writer::write_openbmp_header(answer.header, s, out))
 }
 
-#[no_mangle]
-pub extern "C" fn write_stats(s: &[u8], out: &mut [u8]) -> u64 {
+pub fn write_stats(s: &[u8], out: &mut [u8]) -> u64 {
     let answer = stats_report::parse_stats_report(s);
-    let refusal = answer.refusal;
-    if refusal.number != wire::GOOD {
-        return of_refusal(refusal);
+    if answer.refusal.number != wire::GOOD {
+        return of_refusal(answer.refusal);
     }
     of_written(stats_report_writer::write_stats_report(answer.report, s, out))
 }
 
-#[no_mangle]
-pub extern "C" fn write_initiation(s: &[u8], out: &mut [u8]) -> u64 {
+pub fn write_initiation(s: &[u8], out: &mut [u8]) -> u64 {
     let answer = initiation_message::parse_initiation_message(s);
-    let refusal = answer.refusal;
-    if refusal.number != wire::GOOD {
-        return of_refusal(refusal);
+    if answer.refusal.number != wire::GOOD {
+        return of_refusal(answer.refusal);
     }
     of_written(initiation_message_writer::write_initiation_message(answer.message, s, out))
 }
 
-#[no_mangle]
-pub extern "C" fn write_termination(s: &[u8], out: &mut [u8]) -> u64 {
+pub fn write_termination(s: &[u8], out: &mut [u8]) -> u64 {
     let answer = termination_message::parse_termination_message(s);
-    let refusal = answer.refusal;
-    if refusal.number != wire::GOOD {
-        return of_refusal(refusal);
+    if answer.refusal.number != wire::GOOD {
+        return of_refusal(answer.refusal);
     }
     of_written(termination_message_writer::write_termination_message(answer.message, s, out))
 }
 
-#[no_mangle]
-pub extern "C" fn write_mirroring(s: &[u8], out: &mut [u8]) -> u64 {
+pub fn write_mirroring(s: &[u8], out: &mut [u8]) -> u64 {
     let answer = route_mirroring::parse_route_mirroring(s);
-    let refusal = answer.refusal;
-    if refusal.number != wire::GOOD {
-        return of_refusal(refusal);
+    if answer.refusal.number != wire::GOOD {
+        return of_refusal(answer.refusal);
     }
     of_written(route_mirroring_writer::write_route_mirroring(answer.message, s, out))
 }
 
-#[no_mangle]
-pub extern "C" fn write_monitoring(s: &[u8], out: &mut [u8]) -> u64 {
+pub fn write_monitoring(s: &[u8], out: &mut [u8]) -> u64 {
     match route_monitoring::parse_route_monitoring(s, AsnLength::Bits32, BmpPeerType::Global) {
         RouteMonitoringAnswer::Good(message, _, _) => of_written(route_monitoring_writer::write_route_monitoring(message, s, out)),
         RouteMonitoringAnswer::Refused(refusal) => of_refusal(refusal),
     }
 }
 
-#[no_mangle]
-pub extern "C" fn write_peerup(s: &[u8], out: &mut [u8]) -> u64 {
+pub fn write_peerup(s: &[u8], out: &mut [u8]) -> u64 {
     let answer = peer_up_notification::parse_peer_up_notification(s, Afi::Ipv4, BmpPeerType::Global);
-    let refusal = answer.refusal;
-    if refusal.number != wire::GOOD {
-        return of_refusal(refusal);
+    if answer.refusal.number != wire::GOOD {
+        return of_refusal(answer.refusal);
     }
     of_written(peer_up_notification_writer::write_peer_up_notification(answer.message, s, out))
 }
 
-#[no_mangle]
-pub extern "C" fn write_peerdown(s: &[u8], out: &mut [u8]) -> u64 {
+pub fn write_peerdown(s: &[u8], out: &mut [u8]) -> u64 {
     match peer_down_notification::parse_peer_down_notification(s) {
         PeerDownAnswer::Good(notification, _) => of_written(peer_down_notification_writer::write_peer_down_notification(notification, s, out)),
         PeerDownAnswer::Refused(refusal) => of_refusal(refusal),

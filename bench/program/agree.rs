@@ -1,59 +1,50 @@
 //! Before anything is measured, our answers are held against those of the C walk.
 
 use crate::inputs;
-use crate::sides::{c, ours};
+use crate::sides::Side;
 use crate::streams::{first_messages, messages, Stream};
-
-/// Bytes that a check may turn on.
-const CHANGES: [u8; 9] = [0, 1, 2, 3, 4, 7, 0x20, 0x80, 0xff];
-
-fn stop_at(what: &str, input: &[u8]) -> ! {
-    eprintln!("bench: ours and the C walk differ: {what} of {input:02x?}");
-    std::process::exit(1)
-}
-
-/// Both read, and write what they read, to an output with room and to one that lacks a byte.
-fn compare(reader: &str, input: &[u8]) -> usize {
-    if ours::SIDE.reader(reader)(input) != c::SIDE.reader(reader)(input) {
-        stop_at(reader, input);
-    }
-    if !ours::SIDE.can_write(reader) {
-        return 1;
-    }
-    for room in [input.len() + 8, input.len().saturating_sub(1)] {
-        let mut outputs = [vec![0xaa; room], vec![0xaa; room]];
-        let [one, two] = &mut outputs;
-        let same = ours::SIDE.writer(reader)(input, one) == c::SIDE.writer(reader)(input, two);
-        if !same || outputs[0] != outputs[1] {
-            stop_at(&format!("writing {reader}"), input);
-        }
-    }
-    3
-}
-
-fn compare_message(input: &[u8]) -> usize {
-    let mut sums = [0, 0];
-    let lengths = [ours::SIDE.message(input, &mut sums[0]), c::SIDE.message(input, &mut sums[1])];
-    if sums[0] != sums[1] || lengths[0] != lengths[1] {
-        stop_at("message", input);
-    }
-    1
-}
-
-fn compare_list(input: &[u8]) -> usize {
-    let mut outputs = [vec![0; LIST_ROOM], vec![0; LIST_ROOM]];
-    let [one, two] = &mut outputs;
-    let same = ours::SIDE.writer("list")(input, one) == c::SIDE.writer("list")(input, two);
-    if !same || outputs[0] != outputs[1] {
-        stop_at("list", input);
-    }
-    1
-}
 
 /// What the lister asks for so that every listing fits.
 pub const LIST_ROOM: usize = 196_656;
 
-/// Each input of a row, every cut of it, and every byte of it changed.
+/// Bytes that a check may turn on.
+const CHANGES: [u8; 9] = [0, 1, 2, 3, 4, 7, 0x20, 0x80, 0xff];
+
+fn hold<Answer: PartialEq>(answers: [Answer; 2], what: &str, input: &[u8]) {
+    if answers[0] != answers[1] {
+        eprintln!("bench: ours and the C walk differ: {what} of {input:02x?}");
+        std::process::exit(1);
+    }
+}
+
+fn written(side: Side, name: &str, input: &[u8], room: usize) -> (u64, Vec<u8>) {
+    let mut output = vec![0xaa; room];
+    (side.writer(name)(input, &mut output), output)
+}
+
+/// Both read, and write what they read, to an output with room and to one that lacks a byte. How many answers that are.
+fn compare(sides: [Side; 2], name: &str, input: &[u8]) -> usize {
+    hold(sides.map(|side| side.reader(name)(input)), name, input);
+    let writer = format!("write_{name}");
+    if !sides[0].has(&writer) {
+        return 1;
+    }
+    for room in [input.len() + 8, input.len().saturating_sub(1)] {
+        hold(sides.map(|side| written(side, &writer, input, room)), &writer, input);
+    }
+    3
+}
+
+fn compare_message(sides: [Side; 2], input: &[u8]) -> usize {
+    let read = |side: Side| {
+        let mut sum = 0;
+        (side.message()(input, &mut sum), sum)
+    };
+    hold(sides.map(read), "message", input);
+    1
+}
+
+/// An input, every cut of it, and every byte of it changed.
 fn variants(input: &[u8], mut compare: impl FnMut(&[u8])) {
     for length in 0..=input.len() {
         compare(&input[..length]);
@@ -68,17 +59,18 @@ fn variants(input: &[u8], mut compare: impl FnMut(&[u8])) {
 }
 
 /// How many answers were compared.
-pub fn agree(streams: &[Stream]) -> usize {
+pub fn agree(sides: [Side; 2], streams: &[Stream]) -> usize {
     let mut count = 0;
     for row in inputs::good().into_iter().chain(inputs::refused()) {
-        variants(&row.bytes, |input| count += compare(row.reader, input));
+        variants(&row.bytes, |input| count += compare(sides, row.reader, input));
     }
     for stream in streams {
-        count += compare_list(first_messages(stream.bytes, 65_536));
+        let listed = first_messages(stream.bytes, 65_536);
+        hold(sides.map(|side| written(side, "list", listed, LIST_ROOM)), "list", listed);
         for (i, message) in messages(stream.bytes).enumerate() {
-            count += compare_message(message);
+            count += compare_message(sides, message);
             if i % 16 == 0 && message.len() < 400 {
-                variants(message, |input| count += compare_message(input) + compare("split", input));
+                variants(message, |input| count += compare_message(sides, input) + compare(sides, "split", input));
             }
         }
     }

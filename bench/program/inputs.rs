@@ -68,7 +68,6 @@ pub fn good() -> Vec<Row> {
         written("monitoring", "Route Monitoring, 55 bytes", bgp(2, 36)),
         written("peerup", "Peer Up, 0 TLVs", peer_up(&[])),
         written("peerup", "Peer Up, 5 TLVs", peer_up(&five)),
-        read("peerup_locrib", "Peer Up, 5 TLVs, Loc-RIB", peer_up(&five)),
         written("peerdown", "Peer Down, notification", [&[1][..], &bgp(3, 2)].concat()),
         read("peerdown", "Peer Down, no data", vec![4]),
         written("openbmp", "OpenBMP header", openbmp()),

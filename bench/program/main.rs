@@ -13,7 +13,7 @@ mod streams;
 pub use parser::*;
 
 use bytes::{Buf, Bytes};
-use sides::{c, ours, Side};
+use sides::Side;
 use std::hint::black_box;
 use std::time::Instant;
 use streams::Stream;
@@ -32,28 +32,36 @@ fn batch<'a>(mut call: impl FnMut() -> u64 + 'a) -> Batch<'a> {
     Box::new(move |calls| (0..calls).fold(0, |sum, _| sum ^ call()))
 }
 
-fn nanoseconds(batch: &mut Batch, calls: usize) -> f64 {
+/// Makes the calls so many frames deeper: where the stack stands decides how long a copy waits for what was just written.
+#[inline(never)]
+fn deeper(frames: usize, batch: &mut Batch, calls: usize) -> u64 {
+    let frame = black_box([0u8; 40]);
+    let sum = if frames == 0 { batch(calls) } else { deeper(frames - 1, batch, calls) };
+    sum ^ black_box(frame)[0] as u64
+}
+
+fn nanoseconds(batch: &mut Batch, calls: usize, round: usize) -> f64 {
     let start = Instant::now();
-    black_box(batch(calls));
+    black_box(deeper(round % 8, batch, calls));
     start.elapsed().as_nanos() as f64 / calls as f64
 }
 
 /// As many calls as take about as long as a batch should.
 fn calls_of(batch: &mut Batch) -> usize {
     let mut calls = 1;
-    while nanoseconds(batch, calls) * (calls as f64) < BATCH / 10.0 {
+    while nanoseconds(batch, calls, 0) * (calls as f64) < BATCH / 10.0 {
         calls *= 2;
     }
-    ((BATCH / nanoseconds(batch, calls)) as usize).max(1)
+    ((BATCH / nanoseconds(batch, calls, 0)) as usize).max(1)
 }
 
 /// The batches take turns, so that what slows the machine slows all of them. Nanoseconds a call, divided by the parts of one.
 fn measure(mut batches: Vec<Batch>, rounds: usize, parts: usize) -> Vec<Times> {
     let calls: Vec<usize> = batches.iter_mut().map(calls_of).collect();
     let mut seen = vec![vec![]; batches.len()];
-    for _ in 0..rounds {
+    for round in 0..rounds {
         for (i, batch) in batches.iter_mut().enumerate() {
-            seen[i].push(nanoseconds(batch, calls[i]) / parts as f64);
+            seen[i].push(nanoseconds(batch, calls[i], round) / parts as f64);
         }
     }
     let times = |mut of: Vec<f64>| {
@@ -63,56 +71,81 @@ fn measure(mut batches: Vec<Batch>, rounds: usize, parts: usize) -> Vec<Times> {
     seen.into_iter().map(times).collect()
 }
 
+/// The ratios of a row, for the aims.
+struct Ratios {
+    label: String,
+    of_rust: f64,
+    to_c: f64,
+}
+
 fn head(title: &str) {
     println!("\n| {title} | ours | Rust | C | Rust/ours | ours/C |\n|---|---|---|---|---|---|");
 }
 
 /// The times are of ours, C and, where there is one, the Rust; the ratios are those of the best.
-fn line(label: &str, times: &[Times]) {
+fn line(label: &str, times: &[Times]) -> Ratios {
     let shown = |of: &Times| format!("{:.1} ({:.1})", of.best, of.median);
     let (ours, c) = (&times[0], &times[1]);
-    let rust = times.get(2);
-    let ratio = rust.map_or("-".into(), |rust| format!("{:.1}", rust.best / ours.best));
-    let rust = rust.map_or("-".into(), shown);
-    println!("| {label} | {} | {rust} | {} | {ratio} | {:.2} |", shown(ours), shown(c), ours.best / c.best);
+    let of_rust = times.get(2).map_or(f64::NAN, |rust| rust.best / ours.best);
+    let to_c = ours.best / c.best;
+    let (rust, ratio) = times.get(2).map_or(("-".into(), "-".into()), |rust| (shown(rust), format!("{of_rust:.1}")));
+    println!("| {label} | {} | {rust} | {} | {ratio} | {to_c:.2} |", shown(ours), shown(c));
+    Ratios { label: label.to_string(), of_rust, to_c }
 }
 
-fn read_rows(rows: Vec<inputs::Row>, rounds: usize) {
-    for row in rows {
+/// An aim, and the rows that miss it.
+fn aim(text: &str, rows: &[&Ratios], missed: impl Fn(&Ratios) -> Option<f64>) {
+    let rows: Vec<String> = rows.iter().filter_map(|row| missed(row).map(|ratio| format!("{} ({ratio:.2})", row.label))).collect();
+    let verdict = if rows.is_empty() { "met".to_string() } else { format!("missed by {}", rows.join("; ")) };
+    println!("- {text}: {verdict}.");
+}
+
+fn aims(read: &[Ratios], streams: &[Ratios], listed: &[Ratios]) {
+    let slower_than = |least: f64| move |row: &Ratios| (row.of_rust < least).then_some(row.of_rust);
+    let everyday: Vec<&Ratios> = read.iter().filter(|row| row.label != "Statistics, 1 counter").collect();
+    let measured: Vec<&Ratios> = read.iter().chain(streams).chain(listed).collect();
+    println!();
+    aim("Each reader at least 2.5 times as fast as the Rust, Statistics with one counter aside", &everyday, slower_than(2.5));
+    aim("All streams at least 3.8 times as fast as the Rust", &[&streams[0]], slower_than(3.8));
+    aim("Readers, streams and the lister within 1.4 times the C walk", &measured, |row| (row.to_c > 1.4).then_some(row.to_c));
+}
+
+fn read_rows(sides: [Side; 2], rows: Vec<inputs::Row>, rounds: usize) -> Vec<Ratios> {
+    let measured = |row: inputs::Row| {
         let input: &'static [u8] = row.bytes.leak();
-        let side = |side: Side| {
-            let read = side.reader(row.reader);
-            batch(move || read(black_box(input)))
-        };
+        let [ours, c] = sides.map(|side| side.reader(row.reader)).map(|read| batch(move || read(black_box(input))));
         let (read, bytes) = (original::reader(row.reader), Bytes::from_static(input));
         let rust = batch(move || read(black_box(&bytes)));
-        line(row.label, &measure(vec![side(ours::SIDE), side(c::SIDE), rust], rounds, 1));
-    }
+        line(row.label, &measure(vec![ours, c, rust], rounds, 1))
+    };
+    rows.into_iter().map(measured).collect()
 }
 
-/// An output of its own for each, since what one has written is in the cache.
-fn writer(side: Side, name: &'static str, input: &'static [u8], room: usize) -> Batch<'static> {
-    let write = side.writer(name);
-    let mut output = vec![0; room];
-    batch(move || write(black_box(input), black_box(&mut output)))
+/// Each side has an output of its own.
+fn writers(sides: [Side; 2], name: &str, input: &'static [u8], room: usize) -> Vec<Batch<'static>> {
+    let writer = |side: Side| {
+        let (write, mut output) = (side.writer(name), vec![0; room]);
+        batch(move || write(black_box(input), black_box(&mut output)))
+    };
+    sides.into_iter().map(writer).collect()
 }
 
-fn write_rows(rows: Vec<inputs::Row>, rounds: usize) {
+fn write_rows(sides: [Side; 2], rows: Vec<inputs::Row>, rounds: usize) {
     for row in rows.into_iter().filter(|row| row.written) {
         let room = row.bytes.len() + 64;
-        let input: &'static [u8] = row.bytes.leak();
-        let batches = vec![writer(ours::SIDE, row.reader, input, room), writer(c::SIDE, row.reader, input, room)];
+        let batches = writers(sides, &format!("write_{}", row.reader), row.bytes.leak(), room);
         line(row.label, &measure(batches, rounds, 1));
     }
 }
 
 fn walk(side: Side, streams: &[Stream]) -> Batch<'_> {
+    let message = side.message();
     batch(move || {
         let mut sum = 0;
         for stream in black_box(streams) {
             let mut at = 0;
             while at < stream.bytes.len() {
-                at += side.message(&stream.bytes[at..], &mut sum);
+                at += message(&stream.bytes[at..], &mut sum);
             }
         }
         sum
@@ -132,37 +165,42 @@ fn walk_original(streams: &[Stream]) -> Batch<'_> {
     })
 }
 
-fn stream_rows(streams: &[Stream], rounds: usize) {
+fn stream_rows(sides: [Side; 2], streams: &[Stream], rounds: usize) -> Vec<Ratios> {
+    let all = (format!("All {} streams", streams.len()), streams);
     let each = streams.iter().map(|stream| (stream.name.clone(), std::slice::from_ref(stream)));
-    for (name, part) in std::iter::once((format!("All {} streams", streams.len()), streams)).chain(each) {
+    let measured = |(name, part): (String, &[Stream])| {
         let count = part.iter().map(|stream| streams::messages(stream.bytes).count()).sum();
-        let batches = vec![walk(ours::SIDE, part), walk(c::SIDE, part), walk_original(part)];
-        line(&format!("{name}, {count} messages"), &measure(batches, rounds, count));
-    }
+        let batches = vec![walk(sides[0], part), walk(sides[1], part), walk_original(part)];
+        line(&format!("{name}, {count} messages"), &measure(batches, rounds, count))
+    };
+    std::iter::once(all).chain(each).map(measured).collect()
 }
 
 /// The lister takes 65,536 bytes at most.
-fn list_row(streams: &[Stream], rounds: usize) {
-    let Some(longest) = streams.iter().max_by_key(|stream| stream.bytes.len()) else { return };
+fn list_row(sides: [Side; 2], streams: &[Stream], rounds: usize) -> Ratios {
+    let longest = streams.iter().max_by_key(|stream| stream.bytes.len()).expect("a stream");
     let part = streams::first_messages(longest.bytes, 65_536);
     let count = streams::messages(part).count();
-    let batches = vec![writer(ours::SIDE, "list", part, agree::LIST_ROOM), writer(c::SIDE, "list", part, agree::LIST_ROOM)];
-    line(&format!("{}, {} bytes, {count} messages", longest.name, part.len()), &measure(batches, rounds, count));
+    let times = measure(writers(sides, "list", part, agree::LIST_ROOM), rounds, count);
+    line(&format!("{}, {} bytes, {count} messages", longest.name, part.len()), &times)
 }
 
+/// The words are the library of the two sides, how many rounds are made, and the streams.
 fn main() {
-    let (options, paths): (Vec<String>, Vec<String>) = std::env::args().skip(1).partition(|word| word == "--quick");
-    let rounds = if options.is_empty() { 41 } else { 9 };
-    let streams: Vec<Stream> = paths.iter().map(|path| Stream::open(path)).collect();
-    println!("Ours and the C walk gave the same {} answers. Nanoseconds a call: best (median).", agree::agree(&streams));
+    let words: Vec<String> = std::env::args().collect();
+    let sides = sides::open(&words[1]);
+    let rounds = words[2].parse().expect("a number of rounds");
+    let streams: Vec<Stream> = words[3..].iter().map(|path| Stream::open(path)).collect();
+    println!("Ours and the C walk gave the same {} answers. Nanoseconds a call: best (median).", agree::agree(sides, &streams));
     head("Read");
-    read_rows(inputs::good(), rounds);
+    let read = read_rows(sides, inputs::good(), rounds);
     head("Refused");
-    read_rows(inputs::refused(), rounds);
+    read_rows(sides, inputs::refused(), rounds);
     head("Read and written again");
-    write_rows(inputs::good(), rounds);
+    write_rows(sides, inputs::good(), rounds);
     head("Whole streams, ns a message");
-    stream_rows(&streams, rounds);
+    let whole = stream_rows(sides, &streams, rounds);
     head("Listed, ns a message");
-    list_row(&streams, rounds);
+    let listed = list_row(sides, &streams, rounds);
+    aims(&read, &whole, &[listed]);
 }

@@ -1,5 +1,5 @@
-//! The original's readers, each folded as far as it takes to have looked at every part. They get static `Bytes`, whose clone counts nothing;
-//! no logger is set, so that a warning costs a comparison.
+//! The original's readers. A record is looked at where it stands, as ours are: it must be there whole, and its lengths are added up. They get
+//! static `Bytes`, whose clone counts nothing; no logger is set, so that a warning costs a comparison.
 
 use crate::bmp::error::ParserBmpError;
 use crate::bmp::messages::*;
@@ -12,14 +12,12 @@ use std::hint::black_box;
 pub type Original = fn(&Bytes) -> u64;
 
 const GLOBAL: Option<&BmpPeerType> = Some(&BmpPeerType::Global);
-const LOC_RIB: Option<&BmpPeerType> = Some(&BmpPeerType::LocalRib);
 const AS4: &AsnLength = &AsnLength::Bits32;
 
-/// A record that is handed on whole, as it would be to a caller, and looked at.
 fn fold<Record>(read: Result<Record, ParserBmpError>, look: impl Fn(&Record) -> u64) -> u64 {
-    match black_box(read) {
-        Ok(record) => look(&record),
-        Err(_) => 1 << 63,
+    match &read {
+        Ok(record) => look(black_box(record)),
+        Err(error) => black_box(error) as *const _ as u64,
     }
 }
 
@@ -54,7 +52,6 @@ pub fn reader(name: &str) -> Original {
         "mirroring" => |d| fold(parse_route_mirroring(&mut d.clone(), AS4, GLOBAL), |r| sum(&r.tlvs, |t| t.info_len)),
         "monitoring" => |d| fold(parse_route_monitoring(&mut d.clone(), AS4, GLOBAL), |r| r.bgp_message.given().len() as u64),
         "peerup" => |d| fold(parse_peer_up_notification(&mut d.clone(), &Afi::Ipv4, AS4, GLOBAL), |r| sum(&r.tlvs, |t| t.info_len)),
-        "peerup_locrib" => |d| fold(parse_peer_up_notification(&mut d.clone(), &Afi::Ipv4, AS4, LOC_RIB), |r| sum(&r.tlvs, |t| t.info_len)),
         "peerdown" => |d| fold(parse_peer_down_notification(&mut d.clone()), |r| r.data.as_ref().map_or(0, |b| b.len() as u64)),
         _ => panic!("the original has no reader {name}"),
     }
