@@ -8,7 +8,7 @@ use crate::streams::{first_messages, messages, Stream};
 pub const LIST_ROOM: usize = 196_656;
 
 /// Bytes that a check may turn on.
-const CHANGES: [u8; 9] = [0, 1, 2, 3, 4, 7, 0x20, 0x80, 0xff];
+const CHANGES: [u8; 13] = [0, 1, 2, 3, 4, 5, 6, 7, 18, 19, 0x20, 0x80, 0xff];
 
 fn hold<Answer: PartialEq>(answers: [Answer; 2], what: &str, input: &[u8]) {
     if answers[0] != answers[1] {
@@ -63,6 +63,9 @@ pub fn agree(sides: [Side; 2], streams: &[Stream]) -> usize {
     let mut count = 0;
     for row in inputs::good().into_iter().chain(inputs::refused()) {
         variants(&row.bytes, |input| count += compare(sides, row.reader, input));
+    }
+    for message in inputs::messages() {
+        variants(&message, |input| count += compare_message(sides, input));
     }
     for stream in streams {
         let listed = first_messages(stream.bytes, 65_536);

@@ -74,6 +74,14 @@ pub fn good() -> Vec<Row> {
     ]
 }
 
+/// Whole messages whose headers tell a body's reader what the rows do not: a Loc-RIB, and IPv6.
+pub fn messages() -> [Vec<u8>; 3] {
+    let named = peer_up(&[tlv(3, b"default"), tlv(0, b"text")].concat());
+    let loc_rib = peer(3, 0, [0; 16]);
+    [(3, [&loc_rib[..], &named].concat()), (3, [&peer(0, 0x80, V6)[..], &named].concat()), (0, [&loc_rib[..], &bgp(2, 4)].concat())]
+        .map(|(kind, body)| message(kind, &body))
+}
+
 pub fn refused() -> Vec<Row> {
     let read = |reader, label, bytes| Row { reader, label, bytes, written: false };
     let cut = |bytes: Vec<u8>, length: usize| bytes[..length].to_vec();
