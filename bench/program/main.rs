@@ -20,9 +20,23 @@ use streams::Stream;
 
 const BATCH: f64 = 300_000.0;
 
-struct Times {
-    best: f64,
-    median: f64,
+/// Nanoseconds of each round.
+struct Times(Vec<f64>);
+
+impl Times {
+    fn best(&self) -> f64 {
+        self.0.iter().copied().fold(f64::INFINITY, f64::min)
+    }
+
+    /// Round by round, since what slows one slows the others of its round.
+    fn ratio(&self, other: &Times) -> f64 {
+        median(self.0.iter().zip(&other.0).map(|(one, two)| one / two).collect())
+    }
+}
+
+fn median(mut numbers: Vec<f64>) -> f64 {
+    numbers.sort_by(f64::total_cmp);
+    numbers[numbers.len() / 2]
 }
 
 /// Makes so many calls.
@@ -64,11 +78,7 @@ fn measure(mut batches: Vec<Batch>, rounds: usize, parts: usize) -> Vec<Times> {
             seen[i].push(nanoseconds(batch, calls[i], round) / parts as f64);
         }
     }
-    let times = |mut of: Vec<f64>| {
-        of.sort_by(f64::total_cmp);
-        Times { best: of[0], median: of[of.len() / 2] }
-    };
-    seen.into_iter().map(times).collect()
+    seen.into_iter().map(Times).collect()
 }
 
 /// The ratios of a row, for the aims.
@@ -82,12 +92,12 @@ fn head(title: &str) {
     println!("\n| {title} | ours | Rust | C | Rust/ours | ours/C |\n|---|---|---|---|---|---|");
 }
 
-/// The times are of ours, C and, where there is one, the Rust; the ratios are those of the best.
+/// The times are of ours, C and, where there is one, the Rust.
 fn line(label: &str, times: &[Times]) -> Ratios {
-    let shown = |of: &Times| format!("{:.1} ({:.1})", of.best, of.median);
+    let shown = |of: &Times| format!("{:.1} ({:.1})", of.best(), median(of.0.clone()));
     let (ours, c) = (&times[0], &times[1]);
-    let of_rust = times.get(2).map_or(f64::NAN, |rust| rust.best / ours.best);
-    let to_c = ours.best / c.best;
+    let of_rust = times.get(2).map_or(f64::NAN, |rust| rust.ratio(ours));
+    let to_c = ours.ratio(c);
     let (rust, ratio) = times.get(2).map_or(("-".into(), "-".into()), |rust| (shown(rust), format!("{of_rust:.1}")));
     println!("| {label} | {} | {rust} | {} | {ratio} | {to_c:.2} |", shown(ours), shown(c));
     Ratios { label: label.to_string(), of_rust, to_c }
