@@ -12,7 +12,8 @@ pub enum TlvHead {
     Short,
 }
 
-// The head that stands at the cursor, in a walk that goes on while a head and so many bytes behind it are left.
+// The head that stands at the cursor, in a walk that goes on while a head and so many bytes behind it are left. Type and length are
+// read as one number, so that their bytes are asked for once.
 pub fn read_head(start: Cursor, s: &[u8], behind: usize) -> TlvHead
     ensures { λ r. ⌜ r ≡ headAt behind (now (s .entry)) (start .at) ⌝ }
 {
@@ -24,9 +25,10 @@ pub fn read_head(start: Cursor, s: &[u8], behind: usize) -> TlvHead
     if left - HEAD < behind {
         return TlvHead::Short;
     }
+    let head = numbers::u32_at(s, at);
     TlvHead::Found(
-        numbers::u16_at(s, at),
-        numbers::u16_at(s, at + 2),
+        (head / 65_536) as u16,
+        (head % 65_536) as u16,
         Cursor { at: at + HEAD },
     )
 }
