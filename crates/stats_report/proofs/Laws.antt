@@ -1,26 +1,30 @@
 -- What the walk kit asks of a Statistics body. Assumes nothing.
 use mathlib.Core.Path.{_≡_, sym, ap, _∙_, subst}
+use mathlib.Core.Bool.{Bool, true, false}
 use mathlib.Core.List.{List, _++_}
 use Prim.Native.Nat.{ℕ, suc, _+_, _-_, _≤_, _<_}
 use native.Mathlib.Omega.{arith}
-use borrow.Author.Tests.{le-ltb, le-leb, lt-leb}
+use borrow.Author.Tests.{lt-ltb, le-ltb, le-leb, lt-leb}
+use lib.Dec.{ltb}
 use lib.ListN.{length, drop, set}
 use Rattle.wire.specs.Number as Number
-use Rattle.wire.specs.Bytes.{numAt, be}
-use Rattle.wire.specs.Refusal.{refusal}
+use Rattle.wire.specs.Bytes.{pick, has, numAt, be}
+use Rattle.wire.specs.Refusal.{refusal, cutAt}
 use Rattle.wire.specs.Tlv.{Tlv, putTlv, GoodTlv}
 use Rattle.wire.specs.TlvAt.{tlvOf}
 use Rattle.wire.specs.Walk.{item, resume, readFrom}
 use Rattle.wire.specs.declared.Refusal.{Refusal}
 use Rattle.cursor.specs.declared.Cursor.{Cursor}
-use Rattle.cursor.specs.Read.{Read, cut, read}
-use Rattle.cursor.proofs.Reading.{Was, was-cut}
+use Rattle.cursor.specs.Read.{cursor}
+use Rattle.cursor.proofs.Reading.{Was}
+use Rattle.wire.proofs.Needs.{Lacked}
 use Rattle.wire.proofs.Tlv.{tlv-length, tlv-there, tlv-join, tlv-rest, tlv-parts}
 use Rattle.wire.proofs.Walk.{Takes, Faults, Never, Laws, resume-bad, resume-full, resume-room}
 use Rattle.stats_data.proofs.Values.{value-back, value-forth}
 use Rattle.stats_report.specs.Grammar.{Stat, asTlv, putStat, GoodStat, places, sizeOf}
 use Rattle.stats_report.specs.Shown.{refusedAnswer}
-use Rattle.stats_report.specs.Read.{asStat, stepAt, kit, answer, readStats}
+use Rattle.stats_report.specs.Read.{asStat, stepAt, kit, answer, countOf, readStats}
+use Rattle.stats_report.specs.declared.Count.the-variants.{Said, Refused}
 use Rattle.stats_report.specs.declared.StatCounter.{StatCounter}
 use Rattle.stats_report.specs.declared.Step.the-variants.{Bad, Whole}
 use Rattle.stats_report.proofs.Steps.{whole, see, of, found, no-stop, is-fault, was-bad, was-whole}
@@ -89,18 +93,46 @@ module _ (total n at : ℕ) (table : List StatCounter) (s : List ℕ) (more : n 
         room = λ l. ap (answer total) (resume-room kit n at table s (total - n) (total - (n + 1)) one (w .0) (w .1) l) ∙ rw (w .2, w .3);
       }
 
--- ---- the count in front of the records
-module _ (s : List ℕ) (short : length s ≤ Number.limit) where
-  pub no-count : (x : Read) (r : Refusal) → x ≡ cut r → x ≡ read 4 s 0 → readStats s ≡ refusedAnswer r
-  no-count x r e f =
-      let lacked = was-cut 4 s 0 e f in
-      rw (le-ltb Number.limit (length s) short, lt-leb 4 (length s - 0) (lacked .few), lacked .cut-is)
+-- ---- the count in front of the records: each answer of `read_count`
+module _ (s : List ℕ) where
+  pub too-long : Number.limit < length s → countOf s ≡ Refused (refusal Number.TooLong 0)
+  too-long h = rw (lt-ltb Number.limit (length s) h)
 
-  pub counted : (total : ℕ) (c : Cursor) → Was 4 s 0 total c → readStats s ≡ answer total (readFrom kit total (c .at) s)
-  counted total c w =
-      let n : numAt 4 s 0 ≡ total = sym (w .number) in
-      let p : 4 ≡ c .at = omega (arith, w .next) in
-      rw (le-ltb Number.limit (length s) short, le-leb 4 (length s - 0) (w .left)) (λ i. answer (n i) (readFrom kit (n i) (p i) s))
+  module _ (short : length s ≤ Number.limit) where
+    pub no-count : (r : Refusal) → Lacked (length s) 0 4 r → countOf s ≡ Refused r
+    no-count r lacked = rw (le-ltb Number.limit (length s) short, lt-leb 4 (length s - 0) (lacked .few), lacked .cut-is)
+
+    pub said : (total : ℕ) (c : Cursor) → Was 4 s 0 total c → countOf s ≡ Said total c
+    said total c w =
+        rw (le-ltb Number.limit (length s) short, le-leb 4 (length s - 0) (w .left)) (λ i. Said (sym (w .number) i) (record { at = sym (w .next) i }))
+
+  -- and what each makes of the reader's answer
+  pub no-records : (r : Refusal) → countOf s ≡ Refused r → readStats s ≡ refusedAnswer r
+  no-records r e = go (ltb Number.limit (length s)) (has 4 s 0) e
+    where
+      go : (a b : Bool)
+          → pick a (Refused (refusal Number.TooLong 0)) (pick b (Said (numAt 4 s 0) (cursor 4)) (Refused (cutAt 0))) ≡ Refused r
+          → pick a (refusedAnswer (refusal Number.TooLong 0)) (pick b (answer (numAt 4 s 0) (readFrom kit (numAt 4 s 0) 4 s)) (refusedAnswer (cutAt 0))) ≡ refusedAnswer r
+      go true b q = let z : refusal Number.TooLong 0 ≡ r = cc in ap refusedAnswer z
+      go false true q = let z : _≡_ {A = ℕ} 0 1 = cc in absurd (omega arith)
+      go false false q = let z : cutAt 0 ≡ r = cc in ap refusedAnswer z
+
+  pub records : (total : ℕ) (c : Cursor) → countOf s ≡ Said total c → readStats s ≡ answer total (readFrom kit total (c .at) s)
+  records total c e = go (ltb Number.limit (length s)) (has 4 s 0) e
+    where
+      go : (a b : Bool)
+          → pick a (Refused (refusal Number.TooLong 0)) (pick b (Said (numAt 4 s 0) (cursor 4)) (Refused (cutAt 0))) ≡ Said total c
+          → pick a (refusedAnswer (refusal Number.TooLong 0)) (pick b (answer (numAt 4 s 0) (readFrom kit (numAt 4 s 0) 4 s)) (refusedAnswer (cutAt 0)))
+          ≡ answer total (readFrom kit total (c .at) s)
+      go true b q = let z : _≡_ {A = ℕ} 0 1 = cc in absurd (omega arith)
+      go false true q =
+          let n : numAt 4 s 0 ≡ total = cc in
+          let p : 4 ≡ c .at = cc in
+          λ i. answer (n i) (readFrom kit (n i) (p i) s)
+      go false false q = let z : _≡_ {A = ℕ} 0 1 = cc in absurd (omega arith)
+
+  pub counted : length s ≤ Number.limit → (total : ℕ) (c : Cursor) → Was 4 s 0 total c → readStats s ≡ answer total (readFrom kit total (c .at) s)
+  counted short total c w = records total c (said short total c w)
 
 -- what stands behind the count
 pub behind : (n k : ℕ) (x y : List ℕ) → be 4 n ++ x ≡ be 4 k ++ y → x ≡ y

@@ -21,6 +21,8 @@ use Rattle.stats_report.specs.Told as Told
 use Rattle.stats_report.specs.Shown.{entry, zeroCounter, goodAnswer, refusedAnswer, shown}
 use Rattle.stats_report.specs.declared.StatCounter.{StatCounter}
 use Rattle.stats_report.specs.declared.StatsAnswer.{StatsAnswer}
+use Rattle.stats_report.specs.declared.Count.{Count}
+use Rattle.stats_report.specs.declared.Count.the-variants.{Said, Refused}
 use Rattle.stats_report.specs.declared.Step.{Step}
 use Rattle.stats_report.specs.declared.Step.the-variants.{Bad, Whole}
 
@@ -60,6 +62,16 @@ stepAt s at = asStep at (step (drop at s))
 abbrev pub answer : ℕ → Out StatCounter → StatsAnswer
 answer total (good n at table z) = goodAnswer total n at table
 answer total (refused r) = refusedAnswer r
+
+-- the count in front of the records and the cursor behind it
+abbrev pub countOf : List ℕ → Count
+countOf s =
+    pick (ltb Number.limit (length s)) (Refused (refusal Number.TooLong 0))
+    (pick (has 4 s 0) (Said (numAt 4 s 0) (cursor 4)) (Refused (cutAt 0)))
+
+abbrev pub refusalIn : Count → Refusal
+refusalIn (Said n c) = noRefusal
+refusalIn (Refused r) = r
 
 -- the count, and then as many records as it says
 abbrev pub readStats : List ℕ → StatsAnswer

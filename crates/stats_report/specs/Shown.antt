@@ -11,22 +11,19 @@ use Rattle.stats_report.specs.Grammar.{Stat, Reading, sizeOf, places}
 use Rattle.stats_report.specs.declared.StatCounter.{StatCounter}
 use Rattle.stats_report.specs.declared.StatsAnswer.{StatsAnswer}
 
+-- an entry of the table by its five numbers
+abbrev pub counterOf : ℕ → ℕ → ℕ → ℕ → ℕ → StatCounter
+counterOf kind size afi safi value = record { kind = kind; «stat_len» = size; afi = afi; safi = safi; value = value }
+
 abbrev pub zeroCounter : StatCounter
-zeroCounter = record { kind = 0; «stat_len» = 0; afi = 0; safi = 0; value = 0 }
+zeroCounter = counterOf 0 0 0 0 0
 
 unfoldable pub zeroTable : List StatCounter
 zeroTable = replicate places zeroCounter
 
 -- a record as the table shows it, where it starts at a place
 abbrev pub entry : ℕ → Stat → StatCounter
-entry at t =
-    record {
-      kind = t .kind;
-      «stat_len» = t .size;
-      afi = afiOf (t .value);
-      safi = safiOf (t .value);
-      value = numberOf (at + 4) (t .value);
-    }
+entry at t = counterOf (t .kind) (t .size) (afiOf (t .value)) (safiOf (t .value)) (numberOf (at + 4) (t .value))
 
 -- the data of an entry
 abbrev pub dataIn : StatCounter → StatsData

@@ -7,10 +7,9 @@ use stats_type::StatType;
 use tlv_head::TlvHead;
 use wire::Refusal;
 ghost use mathlib.Core.Path.{_≡_};
-ghost use Rattle.wire.specs.Walk.{readFrom};
 ghost use Rattle.stats_type.specs.Shown.{typeOf};
-ghost use Rattle.stats_report.specs.Shown.{zeroCounter, dataIn, refusedAnswer};
-ghost use Rattle.stats_report.specs.Read.{headCut, stepAt, kit, answer, readStats};
+ghost use Rattle.stats_report.specs.Shown.{counterOf, dataIn, refusedAnswer};
+ghost use Rattle.stats_report.specs.Read.{refusalIn, countOf, headCut, stepAt, readStats};
 
 // How many counters the table of a report holds.
 pub const COUNTER_PLACES: usize = 64;
@@ -39,10 +38,27 @@ pub struct StatsAnswer {
     pub report: StatsReport,
 }
 
+// The count in front of the records and the cursor behind it, or why there is none.
+enum Count {
+    Said(u32, Cursor),
+    Refused(Refusal),
+}
+
 // What stands at a place of the walk: a field that lacks bytes, or the five numbers of a counter and the cursor past it.
 enum Step {
     Bad(Refusal),
     Whole(u16, u16, u16, u16, u64, Cursor),
+}
+
+impl Count {
+    fn refusal(self) -> Refusal
+        ensures { λ r. ⌜ r ≡ refusalIn self ⌝ }
+    {
+        match self {
+            Count::Said(_, _) => wire::no_refusal(),
+            Count::Refused(refusal) => refusal,
+        }
+    }
 }
 
 impl StatCounter {
@@ -61,27 +77,19 @@ impl StatCounter {
     }
 }
 
-// Reads the body: the count, as many records as it says, and a tail that is left.
+// Reads the body: the count, as many records as it says, and a tail that is left. The walk stands in this function, so that its table
+// is handed back once.
 pub fn parse_stats_report(s: &[u8]) -> StatsAnswer
     ensures { λ r. ⌜ r ≡ readStats (now (s .entry)) ⌝ }
 {
-    if wire::LIMIT < s.len() {
-        return refused(wire::refusal_at(wire::TOO_LONG, 0));
-    }
-    let start = Cursor { at: 0 };
-    match start.read_u32(s) {
-        ReadU32::Cut(refusal) => refused(refusal),
-        ReadU32::Good(stats_count, behind) => read_counters(s, stats_count, behind),
-    }
-}
-
-fn read_counters(s: &[u8], stats_count: u32, start: Cursor) -> StatsAnswer
-    ensures { λ r. ⌜ r ≡ answer «stats_count» (readFrom kit «stats_count» (start .at) (now (s .entry))) ⌝ }
-{
-    let zero = zero_counter();
+    let counted = read_count(s);
+    let Count::Said(stats_count, behind) = counted else {
+        return refused(counted.refusal());
+    };
+    let zero = counter_of(0, 0, 0, 0, 0);
     let mut counters = [zero; COUNTER_PLACES];
     let mut count: usize = 0;
-    let mut at = start.at;
+    let mut at = behind.at;
     let stop = loop {
         if (stats_count as usize) <= count {
             break at;
@@ -92,13 +100,7 @@ fn read_counters(s: &[u8], stats_count: u32, start: Cursor) -> StatsAnswer
                 if COUNTER_PLACES <= count {
                     return refused(wire::refusal_at(wire::TOO_MANY, at));
                 }
-                counters[count] = StatCounter {
-                    kind: kind,
-                    stat_len: size,
-                    afi: afi,
-                    safi: safi,
-                    value: value,
-                };
+                counters[count] = counter_of(kind, size, afi, safi, value);
                 count += 1;
                 at = next.at;
             }
@@ -112,6 +114,19 @@ fn read_counters(s: &[u8], stats_count: u32, start: Cursor) -> StatsAnswer
             count: count,
             stats_count: stats_count,
         },
+    }
+}
+
+fn read_count(s: &[u8]) -> Count
+    ensures { λ r. ⌜ r ≡ countOf (now (s .entry)) ⌝ }
+{
+    if wire::LIMIT < s.len() {
+        return Count::Refused(wire::refusal_at(wire::TOO_LONG, 0));
+    }
+    let start = Cursor { at: 0 };
+    match start.read_u32(s) {
+        ReadU32::Cut(refusal) => Count::Refused(refusal),
+        ReadU32::Good(stats_count, behind) => Count::Said(stats_count, behind),
     }
 }
 
@@ -136,22 +151,22 @@ fn head_cut(s: &[u8], at: usize) -> Refusal
     layout::cut_in(&widths, at, s.len())
 }
 
-fn zero_counter() -> StatCounter
-    ensures { λ r. ⌜ r ≡ zeroCounter ⌝ }
+fn counter_of(kind: u16, stat_len: u16, afi: u16, safi: u16, value: u64) -> StatCounter
+    ensures { λ r. ⌜ r ≡ counterOf kind «stat_len» afi safi value ⌝ }
 {
     StatCounter {
-        kind: 0,
-        stat_len: 0,
-        afi: 0,
-        safi: 0,
-        value: 0,
+        kind: kind,
+        stat_len: stat_len,
+        afi: afi,
+        safi: safi,
+        value: value,
     }
 }
 
 fn refused(refusal: Refusal) -> StatsAnswer
     ensures { λ r. ⌜ r ≡ refusedAnswer refusal ⌝ }
 {
-    let zero = zero_counter();
+    let zero = counter_of(0, 0, 0, 0, 0);
     StatsAnswer {
         refusal: refusal,
         stop: 0,
