@@ -13,11 +13,10 @@ use Rattle.wire.proofs.Tlv.{tlv-length, tlv-there, tlv-join, tlv-rest, tlv-part
 use Rattle.wire.proofs.Walk.{Takes, Faults, Laws, Tails, onwards, TurnTo, turn-to, onwards-bad, resume-stop}
 use Rattle.peer_type.specs.declared.BmpPeerType.{BmpPeerType}
 use Rattle.peer_up_notification.specs.Grammar.{ReadTlv, GoodTail, places}
-use Rattle.peer_up_notification.specs.Shown.{shownTlv, messageOf, goodAnswer}
+use Rattle.peer_up_notification.specs.Shown.{Front, shownTlv, messageOf, goodAnswer}
 use Rattle.peer_up_notification.specs.Read.{step, stepAt, kit, warningsIn, withTlvs}
 use Rattle.peer_up_notification.specs.declared.PeerUpNotificationTlv.{PeerUpNotificationTlv}
 use Rattle.peer_up_notification.specs.declared.PeerUpAnswer.{PeerUpAnswer}
-use Rattle.peer_up_notification.specs.declared.Front.{Front}
 use Rattle.peer_up_notification.specs.declared.Step.the-variants.{Stop, Bad, Whole}
 use Rattle.peer_up_notification.proofs.Steps.{see, none-of, whole-of, Found, found, stopped, numbered, was-stop, was-bad, was-whole}
 use mir.Val.{Val}

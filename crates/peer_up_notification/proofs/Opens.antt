@@ -18,9 +18,14 @@ use Rattle.cursor.specs.declared.Cursor.{Cursor}
 use Rattle.wire.specs.declared.View.{View}
 use Rattle.wire.proofs.Bytes.{bytes-append, bytes-be, bytes-take, bytes-drop, value-be, num-lt, num-back, part-back, num-drop, num-part}
 use Rattle.wire.proofs.Views.{length-part, viewed-part, octets-part}
-use Rattle.peer_up_notification.specs.Grammar.{Message, messageBytes, GoodMessage}
+use Rattle.layout.specs.Layout.{cutIn}
+use Rattle.models.specs.declared.Afi.{Afi}
+use Rattle.peer_type.specs.declared.BmpPeerType.{BmpPeerType}
+use Rattle.peer_up_notification.specs.Grammar.{widths, Message, messageBytes, GoodMessage}
+use Rattle.peer_up_notification.specs.Shown.{sentAt, refusedAnswer}
 use Rattle.peer_up_notification.specs.Told.{openOf}
-use Rattle.peer_up_notification.specs.Read.{openAt}
+use Rattle.peer_up_notification.specs.Read.{openAt, behindSent, bothOpens, opensOf, withReceived, withSent, withOpens, readPeerUp}
+use Rattle.peer_up_notification.specs.declared.BothOpens.{BothOpens}
 use Rattle.peer_up_notification.specs.declared.Open.{Open}
 use Rattle.peer_up_notification.specs.declared.Open.the-variants.{Broken, Found}
 
@@ -186,3 +191,39 @@ same-message m n x y g h e =
     let size : m .size ≡ n .size = sym (message-size m g x) ∙ ap (λ (l : List ℕ). numAt 2 l 16) e ∙ message-size n h y in
     let s = split-same (messageBytes m) (messageBytes n) x y (message-long m g ∙ size ∙ sym (message-long n h)) e in
     (sym (open-join m g) ∙ ap openOf (s .0) ∙ open-join n h, s .1)
+
+-- ---- both messages, and what the reader makes of them
+pub opens-then : (afi : Afi) (peer : BmpPeerType) (s : List ℕ) → readPeerUp afi peer s ≡ withOpens afi peer s (opensOf s)
+opens-then afi peer s = go (ltb Number.limit (length s)) (ltb (length s) sentAt) (openAt s sentAt)
+  where
+    received : (v : View) (o : Open) → withReceived afi peer s v o ≡ withOpens afi peer s (behindSent v o)
+    received v (Broken r) = refl
+    received v (Found w c) = refl
+
+    go : (a b : Bool) (o : Open)
+        → pick a (refusedAnswer (refusal Number.TooLong 0)) (pick b (refusedAnswer (cutIn widths 0 (length s))) (withSent afi peer s o))
+        ≡ withOpens afi peer s (pick a (BothOpens.Refused (refusal Number.TooLong 0)) (pick b (BothOpens.Refused (cutIn widths 0 (length s))) (bothOpens s o)))
+    go true b o = refl
+    go false true o = refl
+    go false false (Broken r) = refl
+    go false false (Found v c) = received v (openAt s (c .at))
+
+-- where both are found, what is behind them starts inside an input that is not too long
+pub opens-inside : (s : List ℕ) (v w : View) (at : ℕ) → opensOf s ≡ BothOpens.Found v w at → (at ≤ length s) × (length s ≤ Number.limit)
+opens-inside s v w at e = go (ltb Number.limit (length s)) refl (ltb (length s) sentAt) (openAt s sentAt) e
+  where
+    received : length s ≤ Number.limit → (from : ℕ) (u : View) (o : Open) → openAt s from ≡ o → behindSent u o ≡ BothOpens.Found v w at
+        → (at ≤ length s) × (length s ≤ Number.limit)
+    received short from u (Broken r) h q = let z : _≡_ {A = ℕ} 0 1 = cc in absurd (omega arith)
+    received short from u (Found x c) h q =
+        let f = was-found s from x c h in
+        let place-is : c .at ≡ at = cc in
+        (omega (arith, f .has-header, f .there, f .next-is), short)
+
+    go : (a : Bool) → ltb Number.limit (length s) ≡ a → (b : Bool) (o : Open)
+        → pick a (BothOpens.Refused (refusal Number.TooLong 0)) (pick b (BothOpens.Refused (cutIn widths 0 (length s))) (bothOpens s o)) ≡ BothOpens.Found v w at
+        → (at ≤ length s) × (length s ≤ Number.limit)
+    go true ha b o q = let z : _≡_ {A = ℕ} 0 1 = cc in absurd (omega arith)
+    go false ha true o q = let z : _≡_ {A = ℕ} 0 1 = cc in absurd (omega arith)
+    go false ha false (Broken r) q = let z : _≡_ {A = ℕ} 0 1 = cc in absurd (omega arith)
+    go false ha false (Found u c) q = received (ltb-false _ _ ha) (c .at) u (openAt s (c .at)) refl q

@@ -6,13 +6,14 @@ use lib.ListN.{length, take, drop}
 use lib.Dec.{ltb}
 use Rattle.wire.specs.Number as Number
 use Rattle.wire.specs.Bytes.{pick, numAt, numberAt}
-use Rattle.wire.specs.Refusal.{refusal, cutAt}
+use Rattle.wire.specs.Refusal.{refusal, noRefusal, cutAt}
 use Rattle.cursor.specs.Read.{cursor}
 use Rattle.wire.specs.View.{view}
 use Rattle.wire.specs.Tlv.{Tlv, sizeOf}
 use Rattle.wire.specs.TlvAt.{tlvOf, tlvWidths}
 use Rattle.wire.specs.Walk as Walk
 use Rattle.wire.specs.Walk.{stop, bad, item, from, Kit, Out, good, refused, readFrom}
+use Rattle.wire.specs.declared.Refusal.{Refusal}
 use Rattle.wire.specs.declared.View.{View}
 use Rattle.wire.specs.Exactly.{Reader}
 use Rattle.layout.specs.Layout.{cutIn, sixteenAt}
@@ -23,13 +24,13 @@ use Rattle.peer_type.specs.declared.BmpPeerType.{BmpPeerType}
 use Rattle.peer_up_notification.specs.Grammar.{widths, places, grammar}
 use Rattle.peer_up_notification.specs.Warnings.{Head, some, isTableName, badTableName, warningsOf}
 use Rattle.peer_up_notification.specs.Told as Told
-use Rattle.peer_up_notification.specs.Shown.{entry, zeroTlv, sentAt, messageOf, goodAnswer, refusedAnswer, shown}
+use Rattle.peer_up_notification.specs.Shown.{Front, entry, zeroTlv, sentAt, messageOf, goodAnswer, refusedAnswer, shown}
 use Rattle.peer_up_notification.specs.declared.PeerUpNotificationTlv.{PeerUpNotificationTlv}
 use Rattle.peer_up_notification.specs.declared.PeerUpAnswer.{PeerUpAnswer}
-use Rattle.peer_up_notification.specs.declared.Front.{Front}
 use Rattle.peer_up_notification.specs.declared.TableNames.{TableNames}
 use Rattle.peer_up_notification.specs.declared.Open.{Open}
 use Rattle.peer_up_notification.specs.declared.Open.the-variants.{Broken, Found}
+use Rattle.peer_up_notification.specs.declared.BothOpens.{BothOpens}
 use Rattle.peer_up_notification.specs.declared.Step.{Step}
 use Rattle.peer_up_notification.specs.declared.Step.the-variants.{Stop, Bad, Whole}
 
@@ -41,6 +42,24 @@ openAt s at =
     (pick (ltb (numAt 2 s (at + 16)) 19) (Broken (refusal Number.BgpLength (at + 16)))
     (pick (ltb (length s - at) (numAt 2 s (at + 16))) (Broken (cutAt at))
     (Found (view at (numAt 2 s (at + 16))) (cursor (at + numAt 2 s (at + 16))))))
+
+-- both messages and the place behind them, as the code looks for them before it walks
+abbrev pub behindSent : View → Open → BothOpens
+behindSent sent (Broken r) = BothOpens.Refused r
+behindSent sent (Found received next) = BothOpens.Found sent received (next .at)
+
+abbrev pub bothOpens : List ℕ → Open → BothOpens
+bothOpens s (Broken r) = BothOpens.Refused r
+bothOpens s (Found sent next) = behindSent sent (openAt s (next .at))
+
+abbrev pub opensOf : List ℕ → BothOpens
+opensOf s =
+    pick (ltb Number.limit (length s)) (BothOpens.Refused (refusal Number.TooLong 0))
+    (pick (ltb (length s) sentAt) (BothOpens.Refused (cutIn widths 0 (length s))) (bothOpens s (openAt s sentAt)))
+
+abbrev pub refusalIn : BothOpens → Refusal
+refusalIn (BothOpens.Found sent received at) = noRefusal
+refusalIn (BothOpens.Refused r) = r
 
 abbrev pub frontOf : Afi → List ℕ → View → View → Front
 frontOf afi s sent received =
@@ -108,6 +127,10 @@ withReceived afi peer s sent (Found received next) = withTlvs peer (frontOf afi 
 abbrev pub withSent : Afi → BmpPeerType → List ℕ → Open → PeerUpAnswer
 withSent afi peer s (Broken r) = refusedAnswer r
 withSent afi peer s (Found sent next) = withReceived afi peer s sent (openAt s (next .at))
+
+abbrev pub withOpens : Afi → BmpPeerType → List ℕ → BothOpens → PeerUpAnswer
+withOpens afi peer s (BothOpens.Found sent received at) = withTlvs peer (frontOf afi s sent received) (readFrom kit (length s) at s)
+withOpens afi peer s (BothOpens.Refused r) = refusedAnswer r
 
 abbrev pub readPeerUp : Afi → BmpPeerType → List ℕ → PeerUpAnswer
 readPeerUp afi peer s =

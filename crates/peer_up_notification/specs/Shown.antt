@@ -19,7 +19,6 @@ use Rattle.peer_up_notification.specs.declared.PeerUpTlvType.the-variant
 use Rattle.peer_up_notification.specs.declared.PeerUpNotificationTlv.{PeerUpNotificationTlv}
 use Rattle.peer_up_notification.specs.declared.PeerUpNotification.{PeerUpNotification}
 use Rattle.peer_up_notification.specs.declared.PeerUpAnswer.{PeerUpAnswer}
-use Rattle.peer_up_notification.specs.declared.Front.{Front}
 
 -- types 0 to 4 have names: 1 and 2 are those of the Initiation message, which shared its numbers with Peer Up before RFC 9736
 abbrev pub names : List PeerUpTlvType
@@ -69,6 +68,13 @@ abbrev pub tlvsAt : Reading → ℕ
 tlvsAt r = receivedAt r + r .receivedOpen .size
 
 -- what stands before the TLVs
+pub record Front : Type 0 where
+  pub «local_addr» : IpAddr
+  pub «local_port» : ℕ
+  pub «remote_port» : ℕ
+  pub «sent_open» : View
+  pub «received_open» : View
+
 abbrev pub shownFront : Afi → Reading → Front
 shownFront afi r =
     record {

@@ -15,11 +15,10 @@ ghost use lib.Dec.{eqb, ltb};
 ghost use lib.ListN.{length};
 ghost use Rattle.wire.specs.Number as Number;
 ghost use Rattle.wire.specs.Bytes.{pick, numAt};
-ghost use Rattle.wire.specs.Walk.{readFrom};
 ghost use Rattle.layout.specs.Layout.{cutIn};
 ghost use Rattle.peer_up_notification.specs.Grammar.{widths};
-ghost use Rattle.peer_up_notification.specs.Shown.{typeOf, kindOf, shownTlv, infoOf, refusedAnswer};
-ghost use Rattle.peer_up_notification.specs.Read.{openAt, frontOf, stepAt, kit, namesOf, heardOf, wordOf, withTlvs, withReceived, readPeerUp};
+ghost use Rattle.peer_up_notification.specs.Shown.{typeOf, kindOf, shownTlv, zeroTable, infoOf, refusedAnswer};
+ghost use Rattle.peer_up_notification.specs.Read.{openAt, opensOf, refusalIn, stepAt, namesOf, heardOf, wordOf, readPeerUp};
 
 // 1 and 2 are the names of an Initiation message, whose numbers Peer Up shared before RFC 9736.
 pub enum PeerUpTlvType {
@@ -62,19 +61,16 @@ pub const OPENS_AT: usize = 20;
 // The type of a TLV that tells the name of a table.
 const TABLE_NAME: u16 = 3;
 
-// What stands before the TLVs.
-struct Front {
-    local_addr: IpAddr,
-    local_port: u16,
-    remote_port: u16,
-    sent_open: View,
-    received_open: View,
-}
-
 // What stands at the place of a BGP message: a fault, or the message and the cursor past it.
 enum Open {
     Broken(Refusal),
     Found(View, Cursor),
+}
+
+// The two messages and the place behind them, or why they are not there.
+enum BothOpens {
+    Found(View, View, usize),
+    Refused(Refusal),
 }
 
 // What stands at a place of the walk: its end with the stop place, a fault, or the three numbers of a TLV and the cursor past it.
@@ -106,6 +102,17 @@ impl PeerUpTlvType {
     }
 }
 
+impl BothOpens {
+    fn refusal(self) -> Refusal
+        ensures { λ r. ⌜ r ≡ refusalIn self ⌝ }
+    {
+        match self {
+            BothOpens::Found(_, _, _) => wire::no_refusal(),
+            BothOpens::Refused(refusal) => refusal,
+        }
+    }
+}
+
 impl PeerUpNotificationTlv {
     // The name of the TLV's type.
     pub fn info_type(self) -> PeerUpTlvType
@@ -133,19 +140,65 @@ impl PeerUpNotificationTlv {
     }
 }
 
-// Reads the body, by the family of its address and the type of its peer, which the per-peer header tells.
+// Reads the body, by the family of its address and the type of its peer, which the per-peer header tells. The walk stands in this
+// function, so that its table is handed back once.
 pub fn parse_peer_up_notification(s: &[u8], afi: Afi, peer_type: BmpPeerType) -> PeerUpAnswer
     ensures { λ r. ⌜ r ≡ readPeerUp afi «peer_type» (now (s .entry)) ⌝ }
 {
+    let opens = read_opens(s);
+    let BothOpens::Found(sent_open, received_open, mut at) = opens else {
+        return refused(opens.refusal());
+    };
+    let mut tlvs = no_tlvs();
+    let mut names = no_names();
+    let mut count: usize = 0;
+    let stop = loop {
+        match step_at(s, at) {
+            Step::Stop(place) => break place,
+            Step::Bad(refusal) => return refused(refusal),
+            Step::Whole(kind, size, place, next) => {
+                if wire::TLV_PLACES <= count {
+                    return refused(wire::refusal_at(wire::TOO_MANY, at));
+                }
+                tlvs[count] = tlv_of(kind, size, place);
+                names = heard(names, kind, size);
+                count += 1;
+                at = next.at;
+            }
+        }
+    };
+    PeerUpAnswer {
+        refusal: wire::no_refusal(),
+        stop: stop,
+        warnings: warnings_of(peer_type, names),
+        message: PeerUpNotification {
+            local_addr: addresses::shown_ip(afi, layout::sixteen_at(s, 0)),
+            local_port: numbers::u16_at(s, 16),
+            remote_port: numbers::u16_at(s, 18),
+            sent_open: sent_open,
+            received_open: received_open,
+            tlvs: tlvs,
+            count: count,
+        },
+    }
+}
+
+// The two OPENs, behind the address and the ports.
+fn read_opens(s: &[u8]) -> BothOpens
+    ensures { λ r. ⌜ r ≡ opensOf (now (s .entry)) ⌝ }
+{
     if wire::LIMIT < s.len() {
-        return refused(wire::refusal_at(wire::TOO_LONG, 0));
+        return BothOpens::Refused(wire::refusal_at(wire::TOO_LONG, 0));
     }
     if s.len() < OPENS_AT {
-        return refused(cut(s.len()));
+        return BothOpens::Refused(cut(s.len()));
     }
     match open_at(s, OPENS_AT) {
-        Open::Broken(refusal) => refused(refusal),
-        Open::Found(sent_open, next) => read_received(s, afi, peer_type, sent_open, next),
+        Open::Broken(refusal) => BothOpens::Refused(refusal),
+        Open::Found(sent_open, behind) => match open_at(s, behind.at) {
+            Open::Broken(refusal) => BothOpens::Refused(refusal),
+            Open::Found(received_open, next) => BothOpens::Found(sent_open, received_open, next.at),
+        },
     }
 }
 
@@ -188,85 +241,6 @@ fn message_at(s: &[u8], at: usize, size: u16) -> Open
     }
 }
 
-fn read_received(
-    s: &[u8],
-    afi: Afi,
-    peer_type: BmpPeerType,
-    sent_open: View,
-    start: Cursor,
-) -> PeerUpAnswer
-    requires { ⌜ length (now s) ≤ Number.limit ⌝ }
-    ensures { λ r. ⌜ r ≡ withReceived afi «peer_type» (now (s .entry)) «sent_open» (openAt (now (s .entry)) (start .at)) ⌝ }
-{
-    match open_at(s, start.at) {
-        Open::Broken(refusal) => refused(refusal),
-        Open::Found(received_open, next) => {
-            read_tlvs(
-                s,
-                peer_type,
-                front_of(s, afi, sent_open, received_open),
-                next,
-            )
-        }
-    }
-}
-
-fn front_of(s: &[u8], afi: Afi, sent_open: View, received_open: View) -> Front
-    ensures { λ r. ⌜ r ≡ frontOf afi (now (s .entry)) «sent_open» «received_open» ⌝ }
-{
-    let octets = layout::sixteen_at(s, 0);
-    Front {
-        local_addr: addresses::shown_ip(afi, octets),
-        local_port: numbers::u16_at(s, 16),
-        remote_port: numbers::u16_at(s, 18),
-        sent_open: sent_open,
-        received_open: received_open,
-    }
-}
-
-fn read_tlvs(s: &[u8], peer_type: BmpPeerType, front: Front, start: Cursor) -> PeerUpAnswer
-    requires { ⌜ (start .at ≤ length (now s)) × (length (now s) ≤ Number.limit) ⌝ }
-    ensures { λ r. ⌜ r ≡ withTlvs «peer_type» front (readFrom kit (length (now (s .entry))) (start .at) (now (s .entry))) ⌝ }
-{
-    let zero = tlv_of(0, 0, 0);
-    let mut tlvs = [zero; wire::TLV_PLACES];
-    let mut names = no_names();
-    let mut count: usize = 0;
-    let mut at = start.at;
-    let stop = loop {
-        match step_at(s, at) {
-            Step::Stop(place) => break place,
-            Step::Bad(refusal) => return refused(refusal),
-            Step::Whole(kind, size, place, next) => {
-                if wire::TLV_PLACES <= count {
-                    return refused(wire::refusal_at(wire::TOO_MANY, at));
-                }
-                tlvs[count] = tlv_of(kind, size, place);
-                names = heard(names, kind, size);
-                count += 1;
-                at = next.at;
-            }
-        }
-    };
-    let local_addr = front.local_addr;
-    let sent_open = front.sent_open;
-    let received_open = front.received_open;
-    PeerUpAnswer {
-        refusal: wire::no_refusal(),
-        stop: stop,
-        warnings: warnings_of(peer_type, names),
-        message: PeerUpNotification {
-            local_addr: local_addr,
-            local_port: front.local_port,
-            remote_port: front.remote_port,
-            sent_open: sent_open,
-            received_open: received_open,
-            tlvs: tlvs,
-            count: count,
-        },
-    }
-}
-
 // Of all walks only this one goes on where exactly 4 bytes are left: a last TLV may be empty.
 fn step_at(s: &[u8], at: usize) -> Step
     requires { ⌜ length (now s) ≤ Number.limit ⌝ }
@@ -280,14 +254,7 @@ fn step_at(s: &[u8], at: usize) -> Step
     let length = size as usize;
     match wire::need_at(s.len(), place, length) {
         Need::Cut(refusal) => Step::Bad(refusal),
-        Need::Met => Step::Whole(
-            kind,
-            size,
-            place as u32,
-            Cursor {
-                at: place + length,
-            },
-        ),
+        Need::Met => Step::Whole(kind, size, place as u32, Cursor { at: place + length }),
     }
 }
 
@@ -299,6 +266,13 @@ fn tlv_of(kind: u16, info_len: u16, place: u32) -> PeerUpNotificationTlv
         info_len: info_len,
         place: place,
     }
+}
+
+fn no_tlvs() -> [PeerUpNotificationTlv; wire::TLV_PLACES]
+    ensures { λ r. ⌜ r ≡ zeroTable ⌝ }
+{
+    let zero = tlv_of(0, 0, 0);
+    [zero; wire::TLV_PLACES]
 }
 
 fn warnings_of(peer_type: BmpPeerType, names: TableNames) -> u32
@@ -354,7 +328,6 @@ fn is_bad_length(size: u16) -> bool
 fn refused(refusal: Refusal) -> PeerUpAnswer
     ensures { λ r. ⌜ r ≡ refusedAnswer refusal ⌝ }
 {
-    let zero = tlv_of(0, 0, 0);
     let none = wire::no_view();
     PeerUpAnswer {
         refusal: refusal,
@@ -366,7 +339,7 @@ fn refused(refusal: Refusal) -> PeerUpAnswer
             remote_port: 0,
             sent_open: none,
             received_open: none,
-            tlvs: [zero; wire::TLV_PLACES],
+            tlvs: no_tlvs(),
             count: 0,
         },
     }

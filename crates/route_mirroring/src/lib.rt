@@ -147,14 +147,7 @@ fn message_at(s: &[u8], at: usize, size: u16, value: Cursor) -> Step
     }
     match wire::need_at(s.len(), place, length) {
         Need::Cut(refusal) => Step::Bad(refusal),
-        Need::Met => Step::Whole(
-            0,
-            size,
-            place as u32,
-            Cursor {
-                at: place + length,
-            },
-        ),
+        Need::Met => Step::Whole(0, size, place as u32, Cursor { at: place + length }),
     }
 }
 

@@ -50,9 +50,10 @@ counter-of-requires : tie.Need-counter-of-requires Inv-loop μ-loop
 counter-of-requires c κs = search needs
 
 loop-holds : tie.Need-loop-holds Inv-loop μ-loop
-loop-holds c =
-    ((omega arith, omega arith),
-    records (now (c .before .before .before .before .before .before .args .s)) _ _ (sym (c .before .before .before .before .read-count .ensures) ∙ c .before .before .counted .given .1) ∙ sym (rw (c .counter-of .ensures, sub-zero (c .before .before .counted .given .0 .0))))
+loop-holds c = (
+  (omega arith, omega arith),
+  records (now (c .before .before .before .before .before .before .args .s)) _ _ (sym (c .before .before .before .before .read-count .ensures) ∙ c .before .before .counted .given .1) ∙ sym (rw (c .counter-of .ensures, sub-zero (c .before .before .counted .given .0 .0))),
+)
 
 cast-if1 : tie.Need-cast-if1 Inv-loop μ-loop
 cast-if1 c = search needs
