@@ -2,14 +2,14 @@ use borrow.Author.Needs.{needs}
 use native.Mathlib.Omega.{arith}
 use denote.Ref.{now}
 use mathlib.Core.Path.{_≡_, sym, ap, _∙_}
-use Prim.Native.Nat.{ℕ, _+_, _-_, _≤_}
+use Prim.Native.Nat.{_+_, _-_, _≤_}
 use lib.ListN.{length, take, set, length-set}
 use native.Mathlib.Nat.{sub-zero}
 use Rattle.wire.specs.Walk.{Out, readFrom}
 use Rattle.wire.proofs.Walk.{TurnTo, onwards}
 use Rattle.addresses.specs.Address.{shownIp}
 use Rattle.peer_up_notification.specs.Grammar.{places}
-use Rattle.peer_up_notification.specs.Shown.{shownTlv, zeroTable, messageOf, refusedAnswer}
+use Rattle.peer_up_notification.specs.Shown.{shownTlv, zeroTable, refusedAnswer}
 use Rattle.peer_up_notification.specs.Read.{kit, refusalIn, frontOf, headsIn, namesOf, wordOf, withTlvs, withOpens, readPeerUp}
 use Rattle.peer_up_notification.specs.declared.PeerUpNotificationTlv.{PeerUpNotificationTlv}
 use Rattle.peer_up_notification.proofs.Names.{heard-set}
