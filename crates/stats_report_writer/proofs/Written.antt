@@ -9,7 +9,6 @@ use native.Mathlib.Nat.{mod-eq-of-lt}
 use borrow.Author.Tests.{ltb-true, ltb-false, eqb-true, eqb-false, lt-ltb, eq-eqb, ne-eqb}
 use lib.Dec.{ltb, eqb}
 use lib.ListN.{length, length-map}
-use lib.Seq.{sets}
 use mir.Val.{Val}
 use denote.Laws.{Is}
 use denote.Struct.Laws as Struct
@@ -140,8 +139,3 @@ writes-of m room e = go (ltb places (m .count)) refl (eqb (m .«stats_count») (
 pub length-bytes : (m : StatsReport) (b : List ℕ) → Writes m (length b) → length (bytesOf m b) ≡ 4 + sizes writer (kept m)
 unfolding be
 length-bytes m b w = omega (arith, length-joined writer bodied b (kept m) (w .fine))
-
--- the output, before and after the count was put in front of it
-pub record Headed (m : StatsReport) (out₀ out : List ℕ) : Type 0 where
-  pub put-is : out ≡ sets out₀ 0 (be 4 (m .«stats_count»))
-  pub room : 4 + sizes writer (kept m) ≤ length out₀

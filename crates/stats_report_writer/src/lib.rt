@@ -3,49 +3,48 @@ use stats_report::StatCounter;
 use stats_report::StatsReport;
 use writing::WriteAnswer;
 ghost use mathlib.Core.Path.{_≡_};
-ghost use mathlib.Core.Bool.{true};
 ghost use Prim.Native.Nat.{_+_, _≤_};
 ghost use lib.ListN.{length};
-ghost use lib.Seq.{sets};
 ghost use Rattle.writing.specs.Write.{putAt, writeAnswer, written};
-ghost use Rattle.writing.specs.Table.{sizes};
-ghost use Rattle.stats_report_writer.specs.Write.{plain, counterWritable, writer, oneCounter, kept, bytesOf, writable};
+ghost use Rattle.stats_report_writer.specs.Write.{plain, counterWritable, oneCounter, bytesOf, writable};
 
-// Writes the report, whose views point into the buffer, to the front of the output.
+// Writes the report, whose views point into the buffer, to the front of the output. The table is judged and measured in one pass
+// and written in a second, where it stands.
 pub fn write_stats_report(report: StatsReport, buffer: &[u8], out: &mut [u8]) -> WriteAnswer
     ensures { λ r. ⌜ r ≡ writeAnswer (writable report (length (now (buffer .entry)))) (length (bytesOf report (now (buffer .entry)))) (length (now (out .entry))) ⌝ }
     ensures { λ _. ⌜ now (out .exit) ≡ written (writable report (length (now (buffer .entry)))) (bytesOf report (now (buffer .entry))) (now (out .entry)) ⌝ }
 {
-    if !is_writable(report, buffer.len()) {
-        return writing::write_answer(false, 0, out.len());
-    }
-    let answer = writing::write_answer(true, written_length(report), out.len());
-    let WriteAnswer::Written(_) = answer else {
-        return answer;
-    };
-    put_report(report, buffer, out);
-    answer
-}
-
-fn is_writable(report: StatsReport, room: usize) -> bool
-    ensures { λ r. ⌜ r ≡ writable report room ⌝ }
-{
     let count = report.count;
     if 64 < count {
-        return false;
+        return writing::write_answer(false, 0, out.len());
     }
     if (report.stats_count as usize) != count {
-        return false;
+        return writing::write_answer(false, 0, out.len());
     }
+    let mut length: usize = 4;
     let mut i: usize = 0;
     while i < count {
         let counter = report.counters[i];
-        if !counter_writable(counter, room) {
-            return false;
+        if !counter_writable(counter, buffer.len()) {
+            return writing::write_answer(false, 0, out.len());
         }
+        length += counter_length(counter);
         i += 1;
     }
-    true
+    let answer = writing::write_answer(true, length, out.len());
+    let WriteAnswer::Written(_) = answer else {
+        return answer;
+    };
+    put_numbers::put_u32(out, 0, report.stats_count);
+    let mut at: usize = 4;
+    let mut k: usize = 0;
+    while k < count {
+        let counter = report.counters[k];
+        put_counter(out, at, counter, buffer);
+        at += counter_length(counter);
+        k += 1;
+    }
+    answer
 }
 
 fn counter_writable(counter: StatCounter, room: usize) -> bool
@@ -77,43 +76,11 @@ fn is_plain(counter: StatCounter) -> bool
     true
 }
 
-fn written_length(report: StatsReport) -> usize
-    requires { ⌜ report .count ≤ 64 ⌝ }
-    ensures { λ r. ⌜ r ≡ 4 + sizes writer (kept report) ⌝ }
-{
-    let count = report.count;
-    let mut length: usize = 4;
-    let mut i: usize = 0;
-    while i < count {
-        let counter = report.counters[i];
-        length += counter_length(counter);
-        i += 1;
-    }
-    length
-}
-
 fn counter_length(counter: StatCounter) -> usize
     ensures { λ r. ⌜ (r ≡ 4 + counter .«stat_len») × (r ≤ 65539) ⌝ }
 {
     let size = counter.stat_len;
     4 + (size as usize)
-}
-
-fn put_report(report: StatsReport, buffer: &[u8], out: &mut [u8])
-    requires { ⌜ writable report (length (now buffer)) ≡ true ⌝ }
-    requires { ⌜ 4 + sizes writer (kept report) ≤ length (now out) ⌝ }
-    ensures { λ _. ⌜ now (out .exit) ≡ sets (now (out .entry)) 0 (bytesOf report (now (buffer .entry))) ⌝ }
-{
-    let count = report.count;
-    put_numbers::put_u32(out, 0, report.stats_count);
-    let mut at: usize = 4;
-    let mut i: usize = 0;
-    while i < count {
-        let counter = report.counters[i];
-        put_counter(out, at, counter, buffer);
-        at += counter_length(counter);
-        i += 1;
-    }
 }
 
 fn put_counter(out: &mut [u8], at: usize, counter: StatCounter, buffer: &[u8])
