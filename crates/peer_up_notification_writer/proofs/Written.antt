@@ -4,36 +4,31 @@ use mathlib.Core.Bool.{Bool, true, false, _&&_, and-false, and-assoc, and-eq-tru
 use mathlib.Core.List.{List, _++_, append-assoc}
 use Prim.Native.Nat.{ℕ, _+_, _^_, _≤_, _<_}
 use native.Mathlib.Omega.{arith}
-use borrow.Author.Tests.{leb-true, ltb-true, eqb-true, le-leb, lt-ltb, eq-eqb}
+use native.Mathlib.Nat.{zero-add}
+use borrow.Author.Tests.{leb-true, ltb-true, eqb-true, le-leb, le-ltb, lt-ltb, eq-eqb}
 use lib.Dec.{leb, ltb, eqb}
 use lib.ListN.{length, drop, replicate, length-append}
 use lib.Seq.{sets}
 use Rattle.wire.specs.Bytes.{pick, be, numAt, numberAt, Bytes}
 use Rattle.wire.specs.View.{inside, viewed}
-use Rattle.wire.specs.declared.Refusal.{Refusal}
 use Rattle.wire.specs.declared.View.{View}
 use Rattle.wire.proofs.Bytes.{number-is}
 use Rattle.wire.proofs.Views.{inside-is, bytes-viewed}
-use Rattle.writing.specs.Table.{joined}
-use Rattle.writing.specs.Write.{putAt, writeAnswer, written}
-use Rattle.writing.specs.declared.WriteAnswer.{WriteAnswer}
-use Rattle.writing.specs.declared.WriteAnswer.the-variants.{Written, Refused}
-use Rattle.writing.proofs.Sets.{put-then, put-fits, length-put}
+use Rattle.writing.specs.Table.{joined, allOk}
+use Rattle.writing.specs.Write.{putAt}
+use Rattle.writing.proofs.Sets.{sets-append, put-then, put-fits, length-put}
 use Rattle.writing.proofs.Tlv.{TlvFits, fits-of, fits-from}
-use Rattle.writing.proofs.Table.{Kept, kept-of}
-use Rattle.writing.proofs.Answers as Answers
-use Rattle.writing.proofs.Answers.{answered, left-alone, wrote, put-there}
-use Rattle.tlv_table.specs.Tlvs.{entryWritable, tableWritable, tableBytes, putBehind}
-use Rattle.tlv_table.specs.declared.TlvTable.{TlvTable}
-use Rattle.tlv_table.proofs.Written.{view-long, sets-in-front}
-use Rattle.tlv_table.proofs.Translated.{Translates, writable-same, bytes-same}
+use Rattle.writing.proofs.Table.{Bodied, Kept, kept-of}
+use Rattle.tlv_table.specs.Tlvs.{entryWritable, oneTlv}
+use Rattle.tlv_table.proofs.Written.{view-long, entry-long}
+use Rattle.tlv_table.proofs.Translated.{Translates}
 use Rattle.addresses.specs.Address.{shownIp}
 use Rattle.models.specs.declared.IpAddr.{IpAddr}
 use Rattle.models.proofs.Promises.{equals-is-equality}
 use Rattle.peer_up_notification.specs.Grammar.{messageBytes, skippedFor, places}
 use Rattle.peer_up_notification.specs.Shown.{infoOf, shownAddress, kept}
 use Rattle.peer_up_notification.specs.Told.{openOf}
-use Rattle.peer_up_notification_writer.specs.Write.{addressWritable, openWritable, tlvWritable, writer, bytesOf, tlvsWritable, frontWritable, writable, frontBytes, frontLength, entryOf, tableOf}
+use Rattle.peer_up_notification_writer.specs.Write.{addressWritable, openWritable, tlvWritable, writer, bytesOf, tlvsWritable, frontWritable, writable, endpointBytes, openBytes, frontBytes, frontLength, entryOf}
 use Rattle.peer_up_notification.specs.declared.PeerUpNotificationTlv.{PeerUpNotificationTlv}
 use Rattle.peer_up_notification.specs.declared.PeerUpNotification.{PeerUpNotification}
 use Rattle.peer_up_notification.proofs.Address.{address-shown}
@@ -52,6 +47,14 @@ fine-from room t f = fits-from _ _ _ _ f
 pub translates : Translates writer 0 true entryOf
 unfolding tlvWritable entryWritable
 translates = record { ok-same = λ room n t. rw (le-leb 0 (t .«info_len») (omega arith)); size-same = λ t. refl; put-same = λ b t r. refl }
+
+-- ---- the bytes of one TLV alone, as the kit wants them
+abbrev pub oneOf : List ℕ → PeerUpNotificationTlv → List ℕ
+oneOf b t = oneTlv b (entryOf t)
+
+pub bodied : Bodied writer oneOf
+unfolding be
+bodied = record { put-is = λ b t r. refl; length-is = λ b n t e. entry-long 0 true b n (entryOf t) (translates .ok-same (length b) n t ∙ e) }
 
 -- ---- a BGP message
 pub record FineOpen (b : List ℕ) (v : View) : Type 0 where
@@ -116,7 +119,10 @@ pub record FineFront (m : PeerUpNotification) (b : List ℕ) : Type 0 where
   pub sent : FineOpen b (m .«sent_open»)
   pub received : FineOpen b (m .«received_open»)
 
-pub front-of : (m : PeerUpNotification) (b : List ℕ) → frontWritable m b ≡ true → FineFront m b
+abbrev pub frontOk : PeerUpNotification → List ℕ → Bool
+frontOk m b = frontWritable b (m .«local_addr») (m .«sent_open») (m .«received_open»)
+
+pub front-of : (m : PeerUpNotification) (b : List ℕ) → frontOk m b ≡ true → FineFront m b
 front-of m b e =
     let address = m .«local_addr» in
     let a = and-eq-true-iff (addressWritable address) _ .0 e in
@@ -135,7 +141,7 @@ pub record Writes (m : PeerUpNotification) (b : List ℕ) : Type 0 where
   pub table : Kept writer places (m .count) (m .tlvs) (length b)
 
 -- the front and the TLVs apart
-pub writable-parts : (m : PeerUpNotification) (b : List ℕ) → writable m b ≡ (frontWritable m b && tlvsWritable m (length b))
+pub writable-parts : (m : PeerUpNotification) (b : List ℕ) → writable m b ≡ (frontOk m b && tlvsWritable m (length b))
 writable-parts m b =
     let a = addressWritable (m .«local_addr») in
     let s = openWritable b (m .«sent_open») in
@@ -145,8 +151,20 @@ writable-parts m b =
 
 pub writes-of : (m : PeerUpNotification) (b : List ℕ) → writable m b ≡ true → Writes m b
 writes-of m b e =
-    let p = and-eq-true-iff (frontWritable m b) (tlvsWritable m (length b)) .0 (sym (writable-parts m b) ∙ e) in
+    let p = and-eq-true-iff (frontOk m b) (tlvsWritable m (length b)) .0 (sym (writable-parts m b) ∙ e) in
     record { front = front-of m b (p .0); table = kept-of writer places (m .count) (m .tlvs) (length b) (p .1) }
+
+-- what each test of the code says of the whole
+module _ (m : PeerUpNotification) (b : List ℕ) where
+  pub too-many : places < m .count → writable m b ≡ false
+  too-many h = writable-parts m b ∙ ap (λ (x : Bool). frontOk m b && pick x false (allOk writer (length b) (kept m))) (lt-ltb places (m .count) h) ∙ and-false (frontOk m b)
+
+  pub front-bad : frontOk m b ≡ false → writable m b ≡ false
+  front-bad e = writable-parts m b ∙ ap (λ (x : Bool). x && tlvsWritable m (length b)) e
+
+  pub tlvs-decide : m .count ≤ places → frontOk m b ≡ true → writable m b ≡ allOk writer (length b) (kept m)
+  tlvs-decide h e =
+      writable-parts m b ∙ ap₂ (λ (x y : Bool). x && pick y false (allOk writer (length b) (kept m))) e (le-ltb places (m .count) h)
 
 -- ---- its bytes: those before the TLVs, and then the TLVs
 module _ (m : PeerUpNotification) (b : List ℕ) (p : Bytes b) (w : FineFront m b) where
@@ -168,102 +186,54 @@ module _ (m : PeerUpNotification) (b : List ℕ) (p : Bytes b) (w : FineFront m 
       sym (append-assoc (replicate k 0) (drop k (m .«local_addr» .octets)) (ports ++ (messageBytes (openOf sent) ++ (messageBytes (openOf received) ++ tlvs))))
       ∙ ap₂ (λ (x y : List ℕ). x ++ (ports ++ y)) octets-are messages
       ∙ sym (append-assoc (m .«local_addr» .octets) (ports ++ (sent ++ received)) tlvs)
+      ∙ ap (λ (x : List ℕ). x ++ tlvs) (sym (append-assoc (m .«local_addr» .octets) ports (sent ++ received)))
+
+length-endpoints : (a : IpAddr) (local remote : ℕ) → length (a .octets) ≡ 16 → length (endpointBytes a local remote) ≡ 20
+unfolding be
+length-endpoints a local remote n = length-append (a .octets) (be 2 local ++ be 2 remote) ∙ omega (arith, n)
+
+pub length-opens : (b : List ℕ) (sent received : View) → FineOpen b sent → FineOpen b received
+    → length (openBytes b sent received) ≡ sent .length + received .length
+length-opens b sent received s r =
+    length-append (viewed b sent) (viewed b received) ∙ ap₂ _+_ (view-long b sent (s .within)) (view-long b received (r .within))
 
 module _ (m : PeerUpNotification) (b : List ℕ) (w : FineFront m b) (sixteen : length (m .«local_addr» .octets) ≡ 16) where
   pub length-front : length (frontBytes m b) ≡ frontLength m
-  unfolding be
   length-front =
-      let sent = viewed b (m .«sent_open») in
-      let received = viewed b (m .«received_open») in
-      let a = length-append (m .«local_addr» .octets) (be 2 (m .«local_port») ++ (be 2 (m .«remote_port») ++ (sent ++ received))) in
-      let d = length-append sent received in
-      omega (arith, a, d, sixteen, view-long b (m .«sent_open») (w .sent .within), view-long b (m .«received_open») (w .received .within))
-
-  -- one put after the other
-  pub put-all : (out o1 o2 o3 o4 o5 x y : List ℕ) → x ≡ viewed b (m .«sent_open») → y ≡ viewed b (m .«received_open») → frontLength m ≤ length out
-      → o1 ≡ putAt out 0 (m .«local_addr» .octets) → o2 ≡ putAt o1 16 (be 2 (m .«local_port»)) → o3 ≡ putAt o2 18 (be 2 (m .«remote_port»))
-      → o4 ≡ putAt o3 20 x → o5 ≡ putAt o4 (20 + m .«sent_open» .length) y
-      → o5 ≡ sets out 0 (frontBytes m b)
-  unfolding be
-  put-all out o1 o2 o3 o4 o5 x y ex ey long e1 e2 e3 e4 e5 =
-      let octets = m .«local_addr» .octets in
-      let local = be 2 (m .«local_port») in
-      let remote = be 2 (m .«remote_port») in
-      let sent = viewed b (m .«sent_open») in
-      let received = viewed b (m .«received_open») in
-      let n4 = view-long b (m .«sent_open») (w .sent .within) in
-      let n5 = view-long b (m .«received_open») (w .received .within) in
-      let d = length-append sent received in
-      let m1 : length o1 ≡ length out = ap length e1 ∙ length-put out 0 octets in
-      let m2 : length o2 ≡ length out = ap length e2 ∙ length-put o1 16 local ∙ m1 in
-      let m3 : length o3 ≡ length out = ap length e3 ∙ length-put o2 18 remote ∙ m2 in
-      let q5 = put-then o3 o4 o5 20 (20 + m .«sent_open» .length) sent received (omega (arith, n4, n5, m3, long)) (e4 ∙ ap (putAt o3 20) ex) (omega (arith, n4))
-      (e5 ∙ ap (putAt o4 (20 + m .«sent_open» .length)) ey) in
-      let q3 = put-then o2 o3 o5 18 20 remote (sent ++ received) (omega (arith, n4, n5, d, m2, long)) e3 refl q5 in
-      let q2 = put-then o1 o2 o5 16 18 local (remote ++ (sent ++ received)) (omega (arith, n4, n5, d, m1, long)) e2 refl q3 in
-      let q1 = put-then out o1 o5 0 16 octets (local ++ (remote ++ (sent ++ received))) (omega (arith, n4, n5, d, sixteen, long)) e1 (omega (arith, sixteen)) q2 in
-      q1 ∙ put-fits out 0 (frontBytes m b) (omega (arith, length-front, long))
+      length-append (endpointBytes (m .«local_addr») (m .«local_port») (m .«remote_port»)) (openBytes b (m .«sent_open») (m .«received_open»))
+      ∙ ap₂ _+_ (length-endpoints (m .«local_addr») (m .«local_port») (m .«remote_port») sixteen)
+      (length-opens b (m .«sent_open») (m .«received_open») (w .sent) (w .received))
 
   pub length-bytes : Bytes b → length (bytesOf m b) ≡ frontLength m + length (joined writer b (kept m))
   length-bytes p =
       ap length (bytes-are m b p w) ∙ length-append (frontBytes m b) (joined writer b (kept m))
       ∙ ap (λ (n : ℕ). n + length (joined writer b (kept m))) length-front
 
--- ---- the TLVs were put behind the front, or refused; then the front was put
-module _ (m : PeerUpNotification) (b : List ℕ) (p : Bytes b) (sixteen : length (m .«local_addr» .octets) ≡ 16) (out : List ℕ) (a : WriteAnswer) (ok : Bool)
-    (front : ℕ) (t : TlvTable) (ok-is : ok ≡ frontWritable m b) (front-is : front ≡ pick ok (frontLength m) 0) (table-is : t ≡ tableOf m)
-    (asked : a ≡ writeAnswer (ok && tableWritable t (length b)) (front + length (tableBytes t b)) (length out)) where
-  abbrev tlvs : List ℕ
-  tlvs = joined writer b (kept m)
+-- ---- one put after the other
+pub put-ends : (a : IpAddr) (local remote : ℕ) (out o1 o2 o3 : List ℕ) → length (a .octets) ≡ 16 → 20 ≤ length out
+    → o1 ≡ putAt out 0 (a .octets) → o2 ≡ putAt o1 16 (be 2 local) → o3 ≡ putAt o2 18 (be 2 remote)
+    → o3 ≡ sets out 0 (endpointBytes a local remote)
+unfolding be
+put-ends a local remote out o1 o2 o3 n h e1 e2 e3 =
+    let m1 : length o1 ≡ length out = ap length e1 ∙ length-put out 0 (a .octets) in
+    put-then out o1 o3 0 16 (a .octets) (be 2 local ++ be 2 remote) (omega (arith, n, h)) e1 (omega (arith, n))
+    (put-then o1 o2 o3 16 18 (be 2 local) (be 2 remote) (omega (arith, m1, h)) e2 refl e3)
+    ∙ put-fits out 0 (endpointBytes a local remote) (omega (arith, length-endpoints a local remote n, h))
 
-  bytes-is : tableBytes t b ≡ joined writer b (kept m)
-  bytes-is = ap (λ (u : TlvTable). tableBytes u b) table-is ∙ bytes-same writer 0 true entryOf translates (m .count) (m .tlvs) b
+pub put-both : (b : List ℕ) (sent received : View) (out o1 o2 x y : List ℕ) (k : ℕ) → x ≡ viewed b sent → y ≡ viewed b received → k ≡ 20 + length x
+    → 20 + length (openBytes b sent received) ≤ length out → o1 ≡ putAt out 20 x → o2 ≡ putAt o1 k y
+    → o2 ≡ sets out 20 (openBytes b sent received)
+put-both b sent received out o1 o2 x y k ex ey ek h e1 e2 =
+    let d = length-append (viewed b sent) (viewed b received) in
+    put-then out o1 o2 20 k (viewed b sent) (viewed b received) (omega (arith, d, h)) (e1 ∙ ap (putAt out 20) ex) (ek ∙ ap (λ (l : List ℕ). 20 + length l) ex)
+    (e2 ∙ ap (putAt o1 k) ey)
+    ∙ put-fits out 20 (openBytes b sent received) (omega (arith, h))
 
-  ok-all : (ok && tableWritable t (length b)) ≡ writable m b
-  ok-all =
-      ap₂ _&&_ ok-is (ap (λ (u : TlvTable). tableWritable u (length b)) table-is ∙ writable-same writer 0 true entryOf translates (m .count) (m .tlvs) (length b))
-      ∙ sym (writable-parts m b)
-
-  front-fine : writable m b ≡ true → front ≡ frontLength m
-  front-fine e =
-      let k = and-eq-true-iff (frontWritable m b) (tlvsWritable m (length b)) .0 (sym (writable-parts m b) ∙ e) in
-      front-is ∙ ap (λ (c : Bool). pick c (frontLength m) 0) (ok-is ∙ k .0)
-
-  long : writable m b ≡ true → length (bytesOf m b) ≡ front + length (tableBytes t b)
-  long e =
-      length-bytes m b (writes-of m b e .front) sixteen p
-      ∙ ap₂ _+_ (sym (front-fine e)) (ap length (sym bytes-is))
-
-  asked-so : a ≡ writeAnswer (writable m b) (front + length (tableBytes t b)) (length out)
-  asked-so = asked ∙ ap (λ (c : Bool). writeAnswer c (front + length (tableBytes t b)) (length out)) ok-all
-
-  pub answered-so : a ≡ writeAnswer (writable m b) (length (bytesOf m b)) (length out)
-  answered-so = answered (writable m b) (bytesOf m b) out (front + length (tableBytes t b)) long a asked-so
-
-  pub refused-so : (out′ : List ℕ) → out′ ≡ putBehind a front (tableBytes t b) out → (r : Refusal) → a ≡ Refused r
-      → out′ ≡ written (writable m b) (bytesOf m b) out
-  refused-so out′ e r q =
-      e ∙ ap (λ (x : WriteAnswer). putBehind x front (tableBytes t b) out) q
-      ∙ left-alone (writable m b) (bytesOf m b) out (front + length (tableBytes t b)) long a asked-so r q
-
-  module _ (k : ℕ) (q : a ≡ Written k) where
-    pub wrote-so : Answers.Writes (writable m b) (length (bytesOf m b)) (length out) k
-    wrote-so = wrote (writable m b) (bytesOf m b) out (front + length (tableBytes t b)) long a asked-so k q
-
-    pub front-was : (frontWritable m b ≡ true) × (frontLength m + length tlvs ≤ length out)
-    front-was =
-        let e = wrote-so .is-ok in (
-          and-eq-true-iff (frontWritable m b) (tlvsWritable m (length b)) .0 (sym (writable-parts m b) ∙ e) .0,
-          omega (arith, wrote-so .fits, length-bytes m b (writes-of m b e .front) sixteen p),
-        )
-
-    pub put-so : (out′ out″ : List ℕ) → out′ ≡ putBehind a front (tableBytes t b) out → out″ ≡ sets out′ 0 (frontBytes m b)
-        → out″ ≡ written (writable m b) (bytesOf m b) out
-    put-so out′ out″ e f =
-        let w = writes-of m b (wrote-so .is-ok) .front in
-        let n = length-front m b w sixteen in
-        let behind : out′ ≡ sets out (frontLength m) tlvs =
-        e ∙ ap (λ (x : WriteAnswer). putBehind x front (tableBytes t b) out) q ∙ ap₂ (λ (j : ℕ) (z : List ℕ). sets out j z) (front-fine (wrote-so .is-ok)) bytes-is in
-        put-there (writable m b) (bytesOf m b) out (front + length (tableBytes t b)) long a asked-so k q out″
-        (f ∙ ap (λ (o : List ℕ). sets o 0 (frontBytes m b)) behind ∙ sets-in-front (frontBytes m b) tlvs out (frontLength m) n (front-was .1)
-        ∙ ap (sets out 0) (sym (bytes-are m b p w)))
+pub front-put : (m : PeerUpNotification) (b out o1 o2 : List ℕ) → length (m .«local_addr» .octets) ≡ 16
+    → o1 ≡ sets out 0 (endpointBytes (m .«local_addr») (m .«local_port») (m .«remote_port»))
+    → o2 ≡ sets o1 20 (openBytes b (m .«sent_open») (m .«received_open»)) → o2 ≡ sets out 0 (frontBytes m b)
+front-put m b out o1 o2 sixteen e1 e2 =
+    let ends = endpointBytes (m .«local_addr») (m .«local_port») (m .«remote_port») in
+    let opens = openBytes b (m .«sent_open») (m .«received_open») in
+    e2 ∙ ap₂ (λ (o : List ℕ) (k : ℕ). sets o k opens) e1 (sym (zero-add (length ends) ∙ length-endpoints (m .«local_addr») (m .«local_port») (m .«remote_port») sixteen))
+    ∙ sym (sets-append ends opens out 0)

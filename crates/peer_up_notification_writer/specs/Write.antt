@@ -1,8 +1,8 @@
 -- What the writer writes: the reading of a record, by the grammar's own parts; which records are writable; when two are the same.
 use Prim.Native.Nat.{ℕ, _+_, _-_, _^_, _<_}
 use mathlib.Core.Path.{_≡_}
-use mathlib.Core.Bool.{Bool, true, false, _&&_}
-use mathlib.Core.List.{List, [], _++_, map}
+use mathlib.Core.Bool.{Bool, false, _&&_}
+use mathlib.Core.List.{List, [], _++_}
 use lib.ListN.{length, drop, getD, replicate}
 use lib.Dec.{leb, ltb, eqb}
 use Rattle.wire.specs.Bytes.{pick, be, numAt, Octets}
@@ -13,7 +13,6 @@ use Rattle.writing.specs.Write.{tlvFits}
 use Rattle.writing.specs.Table.{Writer, parts, allOk}
 use Rattle.tlv_table.specs.declared.TlvValue.the-variants.{Part}
 use Rattle.tlv_table.specs.declared.TlvEntry.{TlvEntry}
-use Rattle.tlv_table.specs.declared.TlvTable.{TlvTable}
 use Rattle.addresses.specs.Address.{shownIp}
 use Rattle.models.specs.Address.{sameAddress}
 use Rattle.models.specs.declared.IpAddr.{IpAddr}
@@ -77,24 +76,25 @@ writable m b =
     && (openWritable b (m .«sent_open») && (openWritable b (m .«received_open») && tlvsWritable m (length b)))
 
 -- as the code judges it: all but the TLVs, and then those
-abbrev pub frontWritable : PeerUpNotification → List ℕ → Bool
-frontWritable m b = addressWritable (m .«local_addr») && (openWritable b (m .«sent_open») && openWritable b (m .«received_open»))
+abbrev pub frontWritable : List ℕ → IpAddr → View → View → Bool
+frontWritable b address sent received = addressWritable address && (openWritable b sent && openWritable b received)
 
 -- the bytes before the TLVs of a writable record, and how many they are
+abbrev pub endpointBytes : IpAddr → ℕ → ℕ → List ℕ
+endpointBytes address local remote = address .octets ++ (be 2 local ++ be 2 remote)
+
+abbrev pub openBytes : List ℕ → View → View → List ℕ
+openBytes b sent received = viewed b sent ++ viewed b received
+
 abbrev pub frontBytes : PeerUpNotification → List ℕ → List ℕ
-frontBytes m b =
-    m .«local_addr» .octets ++ (be 2 (m .«local_port») ++ (be 2 (m .«remote_port»)
-    ++ (viewed b (m .«sent_open») ++ viewed b (m .«received_open»))))
+frontBytes m b = endpointBytes (m .«local_addr») (m .«local_port») (m .«remote_port») ++ openBytes b (m .«sent_open») (m .«received_open»)
 
 abbrev pub frontLength : PeerUpNotification → ℕ
 frontLength m = 20 + (m .«sent_open» .length + m .«received_open» .length)
 
--- ---- the table of TLVs that is written for a record
+-- ---- the TLV that is written for an entry
 abbrev pub entryOf : PeerUpNotificationTlv → TlvEntry
 entryOf t = record { kind = t .kind; size = t .«info_len»; value = Part (infoOf t) }
-
-abbrev pub tableOf : PeerUpNotification → TlvTable
-tableOf m = record { tlvs = map entryOf (m .tlvs); count = m .count; least = 0; «empty_last» = true }
 
 -- ---- what the types of its fields say of every record
 pub record Typed (m : PeerUpNotification) : Type 0 where

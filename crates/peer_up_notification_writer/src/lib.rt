@@ -3,20 +3,18 @@ use models::IpAddr;
 use peer_up_notification::PeerUpNotification;
 use peer_up_notification::PeerUpNotificationTlv;
 use tlv_table::TlvEntry;
-use tlv_table::TlvTable;
 use tlv_table::TlvValue;
 use wire::View;
 use writing::WriteAnswer;
 ghost use mathlib.Core.Path.{_≡_};
-ghost use mathlib.Core.Bool.{true};
-ghost use Prim.Native.Nat.{_^_, _≤_, _<_};
+ghost use Prim.Native.Nat.{_+_, _≤_};
 ghost use lib.ListN.{length};
 ghost use lib.Seq.{sets};
-ghost use Rattle.wire.specs.Bytes.{pick};
 ghost use Rattle.writing.specs.Write.{writeAnswer, written};
-ghost use Rattle.peer_up_notification_writer.specs.Write.{addressWritable, openWritable, bytesOf, frontWritable, writable, frontBytes, frontLength, entryOf, tableOf};
+ghost use Rattle.peer_up_notification_writer.specs.Write.{addressWritable, openWritable, bytesOf, frontWritable, writable, endpointBytes, openBytes, entryOf};
 
-// Writes the message, whose views point into the buffer, to the front of the output.
+// Writes the message, whose views point into the buffer, to the front of the output. The table is judged and measured in one pass
+// and written in a second, where it stands.
 pub fn write_peer_up_notification(
     message: PeerUpNotification,
     buffer: &[u8],
@@ -25,23 +23,50 @@ pub fn write_peer_up_notification(
     ensures { λ r. ⌜ r ≡ writeAnswer (writable message (now (buffer .entry))) (length (bytesOf message (now (buffer .entry)))) (length (now (out .entry))) ⌝ }
     ensures { λ _. ⌜ now (out .exit) ≡ written (writable message (now (buffer .entry))) (bytesOf message (now (buffer .entry))) (now (out .entry)) ⌝ }
 {
-    let ok = front_writable(message, buffer);
-    let front = front_length(message, ok);
-    let answer = tlv_table::write_tlvs(table_of(message), front, ok, buffer, out);
-    let WriteAnswer::Written(_) = answer else {
-        return answer;
-    };
-    put_front(message, buffer, out);
-    answer
-}
-
-// All but the TLVs.
-fn front_writable(message: PeerUpNotification, buffer: &[u8]) -> bool
-    ensures { λ r. ⌜ r ≡ frontWritable message (now (buffer .entry)) ⌝ }
-{
     let local_addr = message.local_addr;
     let sent_open = message.sent_open;
     let received_open = message.received_open;
+    let count = message.count;
+    if 32 < count {
+        return writing::write_answer(false, 0, out.len());
+    }
+    if !front_writable(local_addr, sent_open, received_open, buffer) {
+        return writing::write_answer(false, 0, out.len());
+    }
+    let front = 20 + (sent_open.length + received_open.length);
+    let mut length: usize = front;
+    let mut i: usize = 0;
+    while i < count {
+        let tlv = message.tlvs[i];
+        let entry = entry_of(tlv);
+        if !tlv_table::entry_writable(entry, 0, true, buffer.len(), 0) {
+            return writing::write_answer(false, 0, out.len());
+        }
+        length += tlv_table::tlv_length(entry);
+        i += 1;
+    }
+    let answer = writing::write_answer(true, length, out.len());
+    let WriteAnswer::Written(_) = answer else {
+        return answer;
+    };
+    put_endpoints(out, local_addr, message.local_port, message.remote_port);
+    put_opens(out, sent_open, received_open, buffer);
+    let mut at: usize = front;
+    let mut k: usize = 0;
+    while k < count {
+        let tlv = message.tlvs[k];
+        let entry = entry_of(tlv);
+        tlv_table::put_entry(out, at, entry, buffer);
+        at += tlv_table::tlv_length(entry);
+        k += 1;
+    }
+    answer
+}
+
+// All but the ports, which always can be written, and the TLVs.
+fn front_writable(local_addr: IpAddr, sent_open: View, received_open: View, buffer: &[u8]) -> bool
+    ensures { λ r. ⌜ r ≡ frontWritable (now (buffer .entry)) «local_addr» «sent_open» «received_open» ⌝ }
+{
     if !address_writable(local_addr) {
         return false;
     }
@@ -73,37 +98,6 @@ fn open_writable(view: View, buffer: &[u8]) -> bool
     (numbers::u16_at(part, 16) as usize) == view.length
 }
 
-// The lengths of OPENs that cannot be written may be any, so they are not added up.
-fn front_length(message: PeerUpNotification, ok: bool) -> usize
-    requires { ⌜ (ok ≡ true → message .«sent_open» .length < 256 ^ 2) × (ok ≡ true → message .«received_open» .length < 256 ^ 2) ⌝ }
-    ensures { λ r. ⌜ r ≡ pick ok (frontLength message) 0 ⌝ }
-{
-    if ok {
-        return 20 + (message.sent_open.length + message.received_open.length);
-    }
-    0
-}
-
-fn table_of(message: PeerUpNotification) -> TlvTable
-    ensures { λ r. ⌜ r ≡ tableOf message ⌝ }
-{
-    let first = message.tlvs[0];
-    let none = entry_of(first);
-    let mut tlvs = [none; 32];
-    let mut i: usize = 0;
-    while i < 32 {
-        let tlv = message.tlvs[i];
-        tlvs[i] = entry_of(tlv);
-        i += 1;
-    }
-    TlvTable {
-        tlvs: tlvs,
-        count: message.count,
-        least: 0,
-        empty_last: true,
-    }
-}
-
 fn entry_of(tlv: PeerUpNotificationTlv) -> TlvEntry
     ensures { λ r. ⌜ r ≡ entryOf tlv ⌝ }
 {
@@ -116,20 +110,22 @@ fn entry_of(tlv: PeerUpNotificationTlv) -> TlvEntry
 }
 
 // In a writable record the octets that are skipped on reading are zero, so all sixteen are put as they are.
-fn put_front(message: PeerUpNotification, buffer: &[u8], out: &mut [u8])
-    requires { ⌜ frontWritable message (now buffer) ≡ true ⌝ }
-    requires { ⌜ frontLength message ≤ length (now out) ⌝ }
-    ensures { λ _. ⌜ now (out .exit) ≡ sets (now (out .entry)) 0 (frontBytes message (now (buffer .entry))) ⌝ }
+fn put_endpoints(out: &mut [u8], local_addr: IpAddr, local_port: u16, remote_port: u16)
+    requires { ⌜ 20 ≤ length (now out) ⌝ }
+    ensures { λ _. ⌜ now (out .exit) ≡ sets (now (out .entry)) 0 (endpointBytes «local_addr» «local_port» «remote_port») ⌝ }
 {
-    let local_addr = message.local_addr;
     let octets = local_addr.octets;
-    let sent_open = message.sent_open;
-    let received_open = message.received_open;
     writing::put_bytes(out, 0, &octets);
-    put_numbers::put_u16(out, 16, message.local_port);
-    put_numbers::put_u16(out, 18, message.remote_port);
+    put_numbers::put_u16(out, 16, local_port);
+    put_numbers::put_u16(out, 18, remote_port);
+}
+
+fn put_opens(out: &mut [u8], sent_open: View, received_open: View, buffer: &[u8])
+    requires { ⌜ 20 + length (openBytes (now buffer) «sent_open» «received_open») ≤ length (now out) ⌝ }
+    ensures { λ _. ⌜ now (out .exit) ≡ sets (now (out .entry)) 20 (openBytes (now (buffer .entry)) «sent_open» «received_open») ⌝ }
+{
     let sent = sent_open.part(buffer);
-    writing::put_bytes(out, 20, sent);
     let received = received_open.part(buffer);
-    writing::put_bytes(out, 20 + sent_open.length, received);
+    writing::put_bytes(out, 20, sent);
+    writing::put_bytes(out, 20 + sent.len(), received);
 }

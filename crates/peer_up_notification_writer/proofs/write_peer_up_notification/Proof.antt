@@ -1,74 +1,245 @@
 use borrow.Author.Needs.{needs}
+use borrow.Author.Tests.{not-true, not-false}
 use native.Mathlib.Omega.{arith}
 use denote.Ref.{now}
-use mathlib.Core.Path.{sym, _∙_}
+use mathlib.Core.Path.{_≡_, sym, ap, _∙_}
+use mathlib.Core.Bool.{true}
+use Prim.Native.Nat.{_+_, _-_}
+use lib.ListN.{length, getD}
+use lib.Seq.{sets, length-sets}
 use Rattle.wire.specs.Bytes.{Bytes}
 use Rattle.wire.proofs.Held.{slice-bytes, array-bytes}
-use Rattle.peer_up_notification_writer.specs.Write.{Typed}
+use Rattle.writing.specs.Write.{putAt}
+use Rattle.writing.proofs.Answers.{refused-so}
+use Rattle.writing.proofs.Loops.{Measured, Asked, Placed, measured-starts, measured-bad, measured-turn, measured-asks, asked-refused, asked-room, asked-starts, asked-ends, placed-room, placed-turn}
+use Rattle.tlv_table.specs.Tlvs.{entryWritable, oneTlv}
+use Rattle.tlv_table.specs.declared.TlvEntry.{TlvEntry}
+use Rattle.peer_up_notification.specs.Shown.{zeroTlv}
 use Rattle.peer_up_notification.proofs.Laws.{table-long}
-use Rattle.peer_up_notification_writer.proofs.Written.{front-of, answered-so, refused-so, front-was, put-so}
+use Rattle.peer_up_notification_writer.specs.Write.{writer, tlvWritable, bytesOf, writable, endpointBytes, frontBytes, Typed}
+use Rattle.peer_up_notification_writer.proofs.Written.{translates, bodied, FineFront, front-of, too-many, front-bad, tlvs-decide, writes-of, bytes-are, length-opens, length-front, front-put}
 use Rattle.peer_up_notification_writer.proofs.write_peer_up_notification.Statement.{statement}
 use Rattle.peer_up_notification_writer.proofs.write_peer_up_notification.Tie as tie
 
+abbrev Inv-loop : tie.InvT-loop
+Inv-loop buffer out message local sent received count front n₀ i₀ n i = Measured writer (message .tlvs) (message .count) (length buffer) (writable message buffer) n₀ n i
+
+abbrev μ-loop : tie.MeasureT-loop
+μ-loop buffer out message local sent received count front n₀ i₀ n i = message .count - i
+
+abbrev Inv-loop2 : tie.InvT-loop2
+Inv-loop2 buffer out₀ message count front n i answer at₀ k₀ out at k = Placed writer (message .tlvs) (message .count) buffer out₀ at₀ out at k
+
+abbrev μ-loop2 : tie.MeasureT-loop2
+μ-loop2 buffer out₀ message count front n i answer at₀ k₀ out at k = message .count - k
+
 -- The promises speak of every record that is handed to the writer.
-pub typed : (c : tie.Start) → Typed (c .args .message)
+pub typed : (c : tie.Start Inv-loop μ-loop Inv-loop2 μ-loop2) → Typed (c .args .t1)
 typed c =
     let octets = c .good .0 .1 .1 .0 .1 .1 .0 in
     record {
-      octets = record { many = search needs; are-bytes = array-bytes (c .args .message .«local_addr» .octets) (octets .0) (octets .1 .1) };
+      octets = record { many = search needs; are-bytes = array-bytes (c .args .t1 .«local_addr» .octets) (octets .0) (octets .1 .1) };
       local-port-fits = omega (arith, c .good);
       remote-port-fits = omega (arith, c .good);
-      table-long = table-long (c .args .message) _ (c .good .0);
+      table-long = table-long (c .args .t1) _ (c .good .0);
     }
 
-buffer-bytes : (c : tie.After-shared-slice-known) → Bytes (now (c .before .args .buffer))
+buffer-bytes : (c : tie.After-shared-slice-known Inv-loop μ-loop Inv-loop2 μ-loop2) → Bytes (now (c .before .args .buffer))
 buffer-bytes c = slice-bytes (now (c .before .args .buffer)) (λ i. omega (arith, c .shared-slice-known .given i))
 
-front-writable-requires : tie.Need-front-writable-requires
+fine : (c : tie.Else2 Inv-loop μ-loop Inv-loop2 μ-loop2) → FineFront (c .before .before .before .before .before .before .before .before .args .t1) (now (c .before .before .before .before .before .before .before .before .args .buffer))
+fine c = front-of (c .before .before .before .before .before .before .before .before .args .t1) (now (c .before .before .before .before .before .before .before .before .args .buffer)) (sym (c .before .front-writable .ensures) ∙ not-false (c .before .front-writable .result) (c .if2 .left))
+
+long : (c : tie.Else2 Inv-loop μ-loop Inv-loop2 μ-loop2) → length (frontBytes (c .before .before .before .before .before .before .before .before .args .t1) (now (c .before .before .before .before .before .before .before .before .args .buffer))) ≡ 20 + (c .before .before .before .before .before .before .before .before .args .t1 .«sent_open» .length + c .before .before .before .before .before .before .before .before .args .t1 .«received_open» .length)
+long c = length-front (c .before .before .before .before .before .before .before .before .args .t1) (now (c .before .before .before .before .before .before .before .before .args .buffer)) (fine c) (typed (c .before .before .before .before .before .before .before .before) .octets .many)
+
+judged-so : (c : tie.After-entry-writable Inv-loop μ-loop Inv-loop2 μ-loop2) → tlvWritable (length (now (c .before .before .before .before .before .before .before .before .before .before .before .before .before .before .before .args .buffer))) (getD (c .before .before .before .before .before .before .before .before .before .before .before .before .before .before .before .args .t1 .tlvs) (c .before .before .before .before .loop .i) zeroTlv) ≡ c .entry-writable .result
+judged-so c =
+    sym (translates .ok-same (length (now (c .before .before .before .before .before .before .before .before .before .before .before .before .before .before .before .args .buffer))) 0 (getD (c .before .before .before .before .before .before .before .before .before .before .before .before .before .before .before .args .t1 .tlvs) (c .before .before .before .before .loop .i) zeroTlv))
+    ∙ ap (entryWritable 0 true (length (now (c .before .before .before .before .before .before .before .before .before .before .before .before .before .before .before .args .buffer))) 0) (sym (c .before .entry-of .ensures)) ∙ sym (c .entry-writable .ensures)
+
+asked : (c : tie.After-write-answer4 Inv-loop μ-loop Inv-loop2 μ-loop2)
+    → Asked writer (c .before .before .before .before .before .before .before .before .before .before .before .before .before .args .t1 .tlvs) (c .before .before .before .before .before .before .before .before .before .before .before .before .before .args .t1 .count) (now (c .before .before .before .before .before .before .before .before .before .before .before .before .before .args .buffer)) (writable (c .before .before .before .before .before .before .before .before .before .before .before .before .before .args .t1) (now (c .before .before .before .before .before .before .before .before .before .before .before .before .before .args .buffer))) (frontBytes (c .before .before .before .before .before .before .before .before .before .before .before .before .before .args .t1) (now (c .before .before .before .before .before .before .before .before .before .before .before .before .before .args .buffer))) (bytesOf (c .before .before .before .before .before .before .before .before .before .before .before .before .before .args .t1) (now (c .before .before .before .before .before .before .before .before .before .before .before .before .before .args .buffer))) (now (c .before .before .before .before .before .before .before .before .before .before .before .before .before .args .out)) (c .before .before .loop .length) (c .write-answer4 .result)
+asked c =
+    measured-asks (c .before .before .loop .inv) (c .before .loop-test .left) (long (c .before .before .before .before .before))
+    (λ o. bytes-are (c .before .before .before .before .before .before .before .before .before .before .before .before .before .args .t1) (now (c .before .before .before .before .before .before .before .before .before .before .before .before .before .args .buffer)) (buffer-bytes (c .before .before .before .before .before .before .before .before .before .before .before .before)) (writes-of (c .before .before .before .before .before .before .before .before .before .before .before .before .before .args .t1) (now (c .before .before .before .before .before .before .before .before .before .before .before .before .before .args .buffer)) o .front)) (c .write-answer4 .ensures)
+
+front-there : (c : tie.After-put-opens Inv-loop μ-loop Inv-loop2 μ-loop2) → c .put-opens .last .0 ≡ sets (now (c .before .before .before .before .before .before .before .before .before .before .before .before .before .before .before .before .before .before .before .before .before .args .out)) 0 (frontBytes (c .before .before .before .before .before .before .before .before .before .before .before .before .before .before .before .before .before .before .before .before .before .args .t1) (now (c .before .before .before .before .before .before .before .before .before .before .before .before .before .before .before .before .before .before .before .before .before .args .buffer)))
+front-there c = front-put (c .before .before .before .before .before .before .before .before .before .before .before .before .before .before .before .before .before .before .before .before .before .args .t1) (now (c .before .before .before .before .before .before .before .before .before .before .before .before .before .before .before .before .before .before .before .before .before .args .buffer)) (now (c .before .before .before .before .before .before .before .before .before .before .before .before .before .before .before .before .before .before .before .before .before .args .out)) _ _ (typed (c .before .before .before .before .before .before .before .before .before .before .before .before .before .before .before .before .before .before .before .before .before) .octets .many) (c .before .before .before .before .put-endpoints .ensures) (c .put-opens .ensures)
+
+as-long : (c : tie.After-put-opens Inv-loop μ-loop Inv-loop2 μ-loop2) → length (c .put-opens .last .0) ≡ length (now (c .before .before .before .before .before .before .before .before .before .before .before .before .before .before .before .before .before .before .before .before .before .args .out))
+as-long c = ap length (front-there c) ∙ length-sets (now (c .before .before .before .before .before .before .before .before .before .before .before .before .before .before .before .before .before .before .before .before .before .args .out)) 0 (frontBytes (c .before .before .before .before .before .before .before .before .before .before .before .before .before .before .before .before .before .before .before .before .before .args .t1) (now (c .before .before .before .before .before .before .before .before .before .before .before .before .before .before .before .before .before .before .before .before .before .args .buffer)))
+
+write-answer-requires : tie.Need-write-answer-requires Inv-loop μ-loop Inv-loop2 μ-loop2
+write-answer-requires c κs = search needs
+
+returns : tie.Need-returns Inv-loop μ-loop Inv-loop2 μ-loop2
+returns c = refused-so _ (bytesOf (c .before .before .before .before .before .before .before .args .t1) (now (c .before .before .before .before .before .before .before .args .buffer))) (now (c .before .before .before .before .before .before .before .args .out)) (too-many (c .before .before .before .before .before .before .before .args .t1) (now (c .before .before .before .before .before .before .before .args .buffer)) (c .before .if1 .taken)) _ (c .write-answer .ensures)
+
+front-writable-requires : tie.Need-front-writable-requires Inv-loop μ-loop Inv-loop2 μ-loop2
 front-writable-requires c κs = search needs
 
-front-length-requires : tie.Need-front-length-requires
-front-length-requires c κs = (λ e. front-of (c .before .before .before .args .message) (now (c .before .before .before .args .buffer)) (sym (c .front-writable .ensures) ∙ e) .sent .size-fits, λ e. front-of (c .before .before .before .args .message) (now (c .before .before .before .args .buffer)) (sym (c .front-writable .ensures) ∙ e) .received .size-fits)
+write-answer-requires-2 : tie.Need-write-answer-requires-2 Inv-loop μ-loop Inv-loop2 μ-loop2
+write-answer-requires-2 c κs = search needs
 
-table-of-requires : tie.Need-table-of-requires
-table-of-requires c κs = search needs
+returns-2 : tie.Need-returns-2 Inv-loop μ-loop Inv-loop2 μ-loop2
+returns-2 c =
+    refused-so _ (bytesOf (c .before .before .before .before .before .before .before .before .before .args .t1) (now (c .before .before .before .before .before .before .before .before .before .args .buffer))) (now (c .before .before .before .before .before .before .before .before .before .args .out))
+    (front-bad (c .before .before .before .before .before .before .before .before .before .args .t1) (now (c .before .before .before .before .before .before .before .before .before .args .buffer)) (sym (c .before .before .front-writable .ensures) ∙ not-true (c .before .before .front-writable .result) (c .before .if2 .taken))) _ (c .write-answer2 .ensures)
 
-write-tlvs-requires : tie.Need-write-tlvs-requires
-write-tlvs-requires c κs = search needs
+add-front : tie.Need-add-front Inv-loop μ-loop Inv-loop2 μ-loop2
+add-front c = omega (arith, fine (c .before .before) .sent .size-fits, fine (c .before .before) .received .size-fits)
 
-enum-told : tie.Need-enum-told
+add-front-2 : tie.Need-add-front-2 Inv-loop μ-loop Inv-loop2 μ-loop2
+add-front-2 c = omega (arith, fine (c .before .before) .sent .size-fits, fine (c .before .before) .received .size-fits)
+
+loop-holds : tie.Need-loop-holds Inv-loop μ-loop Inv-loop2 μ-loop2
+loop-holds c =
+    measured-starts (omega (arith, table-long (c .before .before .before .before .before .before .before .before .before .before .args .t1) _ (c .before .before .before .before .before .before .before .before .before .before .good .0), c .before .before .before .before .if1 .left))
+    (tlvs-decide (c .before .before .before .before .before .before .before .before .before .before .args .t1) (now (c .before .before .before .before .before .before .before .before .before .before .args .buffer)) (c .before .before .before .before .if1 .left) (sym (c .before .before .before .front-writable .ensures) ∙ not-false (c .before .before .before .front-writable .result) (c .before .before .if2 .left)))
+
+mul-tlv : tie.Need-mul-tlv Inv-loop μ-loop Inv-loop2 μ-loop2
+mul-tlv c = search needs
+
+element-copy-out-tlv : tie.Need-element-copy-out-tlv Inv-loop μ-loop Inv-loop2 μ-loop2
+element-copy-out-tlv c = search needs
+
+entry-of-requires : tie.Need-entry-of-requires Inv-loop μ-loop Inv-loop2 μ-loop2
+entry-of-requires c κs = search needs
+
+entry-writable-requires : tie.Need-entry-writable-requires Inv-loop μ-loop Inv-loop2 μ-loop2
+entry-writable-requires c κs = search needs
+
+write-answer-requires-3 : tie.Need-write-answer-requires-3 Inv-loop μ-loop Inv-loop2 μ-loop2
+write-answer-requires-3 c κs = search needs
+
+returns-3 : tie.Need-returns-3 Inv-loop μ-loop Inv-loop2 μ-loop2
+returns-3 c =
+    refused-so _ (bytesOf (c .before .before .before .before .before .before .before .before .before .before .before .before .before .before .before .before .before .args .t1) (now (c .before .before .before .before .before .before .before .before .before .before .before .before .before .before .before .before .before .args .buffer))) (now (c .before .before .before .before .before .before .before .before .before .before .before .before .before .before .before .before .before .args .out))
+    (measured-bad (c .before .before .before .before .before .before .loop .inv) zeroTlv (c .before .before .before .before .before .loop-test .taken) (judged-so (c .before .before) ∙ not-true (c .before .before .entry-writable .result) (c .before .if3 .taken))) _ (c .write-answer3 .ensures)
+
+tlv-length-requires : tie.Need-tlv-length-requires Inv-loop μ-loop Inv-loop2 μ-loop2
+tlv-length-requires c κs = search needs
+
+add-length : tie.Need-add-length Inv-loop μ-loop Inv-loop2 μ-loop2
+add-length c = omega (arith, c .before .before .before .before .before .before .loop .inv .small, c .before .before .before .before .before .before .before .before .before .before .before .if1 .left, c .before .before .before .before .before .loop-test .taken, c .tlv-length .ensures .1, fine (c .before .before .before .before .before .before .before .before .before) .sent .size-fits, fine (c .before .before .before .before .before .before .before .before .before) .received .size-fits)
+
+add-i : tie.Need-add-i Inv-loop μ-loop Inv-loop2 μ-loop2
+add-i c = search needs
+
+loop-less : tie.Need-loop-less Inv-loop μ-loop Inv-loop2 μ-loop2
+loop-less c = search needs
+
+loop-again : tie.Need-loop-again Inv-loop μ-loop Inv-loop2 μ-loop2
+loop-again c =
+    measured-turn (c .before .before .before .before .before .before .loop .inv) zeroTlv (c .before .before .before .before .before .loop-test .taken) (judged-so (c .before .before) ∙ not-false (c .before .before .entry-writable .result) (c .before .if3 .left))
+    (c .tlv-length .result) (c .tlv-length .ensures .0 ∙ ap (λ (e : TlvEntry). 4 + e .size) (c .before .before .before .entry-of .ensures)) (c .tlv-length .ensures .1)
+
+write-answer-requires-4 : tie.Need-write-answer-requires-4 Inv-loop μ-loop Inv-loop2 μ-loop2
+write-answer-requires-4 c κs = search needs
+
+enum-told : tie.Need-enum-told Inv-loop μ-loop Inv-loop2 μ-loop2
 enum-told c = search needs
 
-enum-told-2 : tie.Need-enum-told-2
+enum-told-2 : tie.Need-enum-told-2 Inv-loop μ-loop Inv-loop2 μ-loop2
 enum-told-2 c = search needs
 
-same-length : tie.Need-same-length
-same-length c = search needs
+returns-4 : tie.Need-returns-4 Inv-loop μ-loop Inv-loop2 μ-loop2
+returns-4 c = asked-refused bodied (asked (c .before .before)) (c .enum-told2 .given .1)
 
-returns : tie.Need-returns
-returns c = (answered-so (c .before .before .before .before .before .before .before .before .before .before .before .args .message) (now (c .before .before .before .before .before .before .before .before .before .before .before .args .buffer)) (buffer-bytes (c .before .before .before .before .before .before .before .before .before .before)) (typed (c .before .before .before .before .before .before .before .before .before .before .before) .octets .many) (now (c .before .before .before .before .before .before .before .before .before .before .before .args .out)) (c .before .before .before .before .write-tlvs .result) (c .before .before .before .before .before .before .before .before .front-writable .result) (c .before .before .before .before .before .before .before .front-length .result) (c .before .before .before .before .before .before .table-of .result) (c .before .before .before .before .before .before .before .before .front-writable .ensures) (c .before .before .before .before .before .before .before .front-length .ensures) (c .before .before .before .before .before .before .table-of .ensures) (c .before .before .before .before .write-tlvs .ensures .0), refused-so (c .before .before .before .before .before .before .before .before .before .before .before .args .message) (now (c .before .before .before .before .before .before .before .before .before .before .before .args .buffer)) (buffer-bytes (c .before .before .before .before .before .before .before .before .before .before)) (typed (c .before .before .before .before .before .before .before .before .before .before .before) .octets .many) (now (c .before .before .before .before .before .before .before .before .before .before .before .args .out)) (c .before .before .before .before .write-tlvs .result) (c .before .before .before .before .before .before .before .before .front-writable .result) (c .before .before .before .before .before .before .before .front-length .result) (c .before .before .before .before .before .before .table-of .result) (c .before .before .before .before .before .before .before .before .front-writable .ensures) (c .before .before .before .before .before .before .before .front-length .ensures) (c .before .before .before .before .before .before .table-of .ensures) (c .before .before .before .before .write-tlvs .ensures .0) _ (c .before .before .before .before .write-tlvs .ensures .1) _ (c .enum-told2 .given .1))
+put-endpoints-requires : tie.Need-put-endpoints-requires Inv-loop μ-loop Inv-loop2 μ-loop2
+put-endpoints-requires c κs = omega (arith, asked-room bodied (asked (c .before .before .before)) (c .before .enum-told .given .1), long (c .before .before .before .before .before .before .before .before))
 
-put-front-requires : tie.Need-put-front-requires
-put-front-requires c κs = let w = front-was (c .before .before .before .before .before .before .before .before .before .before .before .before .args .message) (now (c .before .before .before .before .before .before .before .before .before .before .before .before .args .buffer)) (buffer-bytes (c .before .before .before .before .before .before .before .before .before .before .before)) (typed (c .before .before .before .before .before .before .before .before .before .before .before .before) .octets .many) (now (c .before .before .before .before .before .before .before .before .before .before .before .before .args .out)) (c .before .before .before .before .before .write-tlvs .result) (c .before .before .before .before .before .before .before .before .before .front-writable .result) (c .before .before .before .before .before .before .before .before .front-length .result) (c .before .before .before .before .before .before .before .table-of .result) (c .before .before .before .before .before .before .before .before .before .front-writable .ensures) (c .before .before .before .before .before .before .before .before .front-length .ensures) (c .before .before .before .before .before .before .before .table-of .ensures) (c .before .before .before .before .before .write-tlvs .ensures .0) _ (c .before .enum-told .given .1) in (w .0, omega (arith, w .1))
+put-opens-requires : tie.Need-put-opens-requires Inv-loop μ-loop Inv-loop2 μ-loop2
+put-opens-requires c κs =
+    let f = fine (c .before .before .before .before .before .before .before .before .before .before .before .before) in
+    let n = length-opens (now (c .before .before .before .before .before .before .before .before .before .before .before .before .before .before .before .before .before .before .before .before .args .buffer)) (c .before .before .before .before .before .before .before .before .before .before .before .before .before .before .before .before .before .before .before .before .args .t1 .«sent_open») (c .before .before .before .before .before .before .before .before .before .before .before .before .before .before .before .before .before .before .before .before .args .t1 .«received_open») (f .sent) (f .received) in
+    let same = ap length (c .before .before .before .put-endpoints .ensures) ∙ length-sets (now (c .before .before .before .before .before .before .before .before .before .before .before .before .before .before .before .before .before .before .before .before .args .out)) 0 (endpointBytes (c .before .before .before .before .before .before .before .before .before .before .before .before .before .before .before .before .before .before .before .before .args .t1 .«local_addr») (c .before .before .before .before .before .before .before .before .before .before .before .before .before .before .before .before .before .before .before .before .args .t1 .«local_port») (c .before .before .before .before .before .before .before .before .before .before .before .before .before .before .before .before .before .before .before .before .args .t1 .«remote_port»)) in
+    omega (arith, asked-room bodied (asked (c .before .before .before .before .before .before .before)) (c .before .before .before .before .before .enum-told .given .1), long (c .before .before .before .before .before .before .before .before .before .before .before .before), n, same)
 
-same-length-2 : tie.Need-same-length-2
-same-length-2 c = search needs
+loop2-holds : tie.Need-loop2-holds Inv-loop μ-loop Inv-loop2 μ-loop2
+loop2-holds c = asked-starts bodied (asked (c .before .before .before .before .before .before .before .before .before .before)) (c .before .before .before .before .before .before .before .before .enum-told .given .1) (as-long (c .before .before)) (sym (long (c .before .before .before .before .before .before .before .before .before .before .before .before .before .before .before)))
 
-returns-2 : tie.Need-returns-2
-returns-2 c = (answered-so (c .before .before .before .before .before .before .before .before .before .before .before .before .before .before .before .args .message) (now (c .before .before .before .before .before .before .before .before .before .before .before .before .before .before .before .args .buffer)) (buffer-bytes (c .before .before .before .before .before .before .before .before .before .before .before .before .before .before)) (typed (c .before .before .before .before .before .before .before .before .before .before .before .before .before .before .before) .octets .many) (now (c .before .before .before .before .before .before .before .before .before .before .before .before .before .before .before .args .out)) (c .before .before .before .before .before .before .before .before .write-tlvs .result) (c .before .before .before .before .before .before .before .before .before .before .before .before .front-writable .result) (c .before .before .before .before .before .before .before .before .before .before .before .front-length .result) (c .before .before .before .before .before .before .before .before .before .before .table-of .result) (c .before .before .before .before .before .before .before .before .before .before .before .before .front-writable .ensures) (c .before .before .before .before .before .before .before .before .before .before .before .front-length .ensures) (c .before .before .before .before .before .before .before .before .before .before .table-of .ensures) (c .before .before .before .before .before .before .before .before .write-tlvs .ensures .0), put-so (c .before .before .before .before .before .before .before .before .before .before .before .before .before .before .before .args .message) (now (c .before .before .before .before .before .before .before .before .before .before .before .before .before .before .before .args .buffer)) (buffer-bytes (c .before .before .before .before .before .before .before .before .before .before .before .before .before .before)) (typed (c .before .before .before .before .before .before .before .before .before .before .before .before .before .before .before) .octets .many) (now (c .before .before .before .before .before .before .before .before .before .before .before .before .before .before .before .args .out)) (c .before .before .before .before .before .before .before .before .write-tlvs .result) (c .before .before .before .before .before .before .before .before .before .before .before .before .front-writable .result) (c .before .before .before .before .before .before .before .before .before .before .before .front-length .result) (c .before .before .before .before .before .before .before .before .before .before .table-of .result) (c .before .before .before .before .before .before .before .before .before .before .before .before .front-writable .ensures) (c .before .before .before .before .before .before .before .before .before .before .before .front-length .ensures) (c .before .before .before .before .before .before .before .before .before .before .table-of .ensures) (c .before .before .before .before .before .before .before .before .write-tlvs .ensures .0) _ (c .before .before .before .before .enum-told .given .1) _ _ (c .before .before .before .before .before .before .before .before .write-tlvs .ensures .1) (c .before .before .put-front .ensures))
+mul-tlv-2 : tie.Need-mul-tlv-2 Inv-loop μ-loop Inv-loop2 μ-loop2
+mul-tlv-2 c = search needs
+
+element-copy-out-tlv-2 : tie.Need-element-copy-out-tlv-2 Inv-loop μ-loop Inv-loop2 μ-loop2
+element-copy-out-tlv-2 c = search needs
+
+entry-of-requires-2 : tie.Need-entry-of-requires-2 Inv-loop μ-loop Inv-loop2 μ-loop2
+entry-of-requires-2 c κs = search needs
+
+put-entry-requires : tie.Need-put-entry-requires Inv-loop μ-loop Inv-loop2 μ-loop2
+put-entry-requires c κs = search needs
+
+tlv-length-requires-2 : tie.Need-tlv-length-requires-2 Inv-loop μ-loop Inv-loop2 μ-loop2
+tlv-length-requires-2 c κs = search needs
+
+add-at : tie.Need-add-at Inv-loop μ-loop Inv-loop2 μ-loop2
+add-at c =
+    let n = c .tlv-length2 .ensures .0 ∙ ap (λ (e : TlvEntry). 4 + e .size) (c .before .before .before .before .before .entry-of2 .ensures) in
+    omega (arith, placed-room bodied (c .before .before .before .before .before .before .before .before .loop2 .inv) zeroTlv (c .before .before .before .before .before .before .before .loop2-test .taken) .0, c .before .before .before .before .before .before .before .before .loop2 .inv .long, as-long (c .before .before .before .before .before .before .before .before .before .before .before), c .before .before .before .before .before .before .before .before .before .before .before .before .before .before .before .before .before .before .before .before .before .before .before .before .before .before .before .before .before .before .before .before .good, n)
+
+add-k : tie.Need-add-k Inv-loop μ-loop Inv-loop2 μ-loop2
+add-k c = search needs
+
+loop2-less : tie.Need-loop2-less Inv-loop μ-loop Inv-loop2 μ-loop2
+loop2-less c = search needs
+
+loop2-again : tie.Need-loop2-again Inv-loop μ-loop Inv-loop2 μ-loop2
+loop2-again c =
+    let n : c .tlv-length2 .result ≡ 4 + getD (c .before .before .before .before .before .before .before .before .before .before .before .before .before .before .before .before .before .before .before .before .before .before .before .before .before .before .before .before .before .before .before .before .args .t1 .tlvs) (c .before .before .before .before .before .before .before .before .loop2 .k) zeroTlv .«info_len» = c .tlv-length2 .ensures .0 ∙ ap (λ (e : TlvEntry). 4 + e .size) (c .before .before .before .before .before .entry-of2 .ensures) in
+    placed-turn bodied (c .before .before .before .before .before .before .before .before .loop2 .inv) zeroTlv (c .before .before .before .before .before .before .before .loop2-test .taken)
+    (c .before .before .before .put-entry .ensures ∙ ap (λ (e : TlvEntry). putAt (c .before .before .before .before .before .before .before .before .loop2 .out) (c .before .before .before .before .before .before .before .before .loop2 .at) (oneTlv (now (c .before .before .before .before .before .before .before .before .before .before .before .before .before .before .before .before .before .before .before .before .before .before .before .before .before .before .before .before .before .before .before .before .args .buffer)) e)) (c .before .before .before .before .before .entry-of2 .ensures)) (omega (arith, n))
+
+same-length : tie.Need-same-length Inv-loop μ-loop Inv-loop2 μ-loop2
+same-length c = c .before .loop2 .inv .long ∙ as-long (c .before .before .before .before)
+
+returns-5 : tie.Need-returns-5 Inv-loop μ-loop Inv-loop2 μ-loop2
+returns-5 c = asked-ends bodied (asked (c .before .before .before .before .before .before .before .before .before .before .before .before)) (c .before .before .before .before .before .before .before .before .before .before .enum-told .given .1) (front-there (c .before .before .before .before)) (sym (long (c .before .before .before .before .before .before .before .before .before .before .before .before .before .before .before .before .before))) (c .before .loop2 .inv) (c .loop2-test .left)
 
 pub write-peer-up-notification-spec : {M : Type 1} → statement M
 write-peer-up-notification-spec =
     tie.close
     (tie.spec
+    Inv-loop
+    μ-loop
+    Inv-loop2
+    μ-loop2
+    write-answer-requires
+    returns
     front-writable-requires
-    front-length-requires
-    table-of-requires
-    write-tlvs-requires
+    write-answer-requires-2
+    returns-2
+    add-front
+    add-front-2
+    loop-holds
+    mul-tlv
+    element-copy-out-tlv
+    entry-of-requires
+    entry-writable-requires
+    write-answer-requires-3
+    returns-3
+    tlv-length-requires
+    add-length
+    add-i
+    loop-less
+    loop-again
+    write-answer-requires-4
     enum-told
     enum-told-2
+    returns-4
+    put-endpoints-requires
+    put-opens-requires
+    loop2-holds
+    mul-tlv-2
+    element-copy-out-tlv-2
+    entry-of-requires-2
+    put-entry-requires
+    tlv-length-requires-2
+    add-at
+    add-k
+    loop2-less
+    loop2-again
     same-length
-    returns
-    put-front-requires
-    same-length-2
-    returns-2)
+    returns-5)
