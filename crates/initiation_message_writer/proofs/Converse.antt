@@ -1,6 +1,6 @@
 -- No record is refused that would be read back as itself, where its views lie inside the buffer. Assumes nothing.
 use mathlib.Core.Path.{_≡_, refl, sym, ap, _∙_, subst}
-use mathlib.Core.Bool.{true, false}
+use mathlib.Core.Bool.{true}
 use mathlib.Core.List.{List, [], _∷_}
 use Prim.Native.Nat.{ℕ, suc, _+_, _-_, _≤_, _<_}
 use native.Mathlib.Omega.{arith}
@@ -10,19 +10,20 @@ use Rattle.wire.specs.Bytes.{be}
 use Rattle.wire.specs.Parts.{joinAll, EachGood, AllAt}
 use Rattle.wire.specs.Tlv.{Tlv, putTlv, sizeOf, putTail}
 use Rattle.wire.specs.Exactly.{Shows}
+use Rattle.wire.proofs.Tlv.{put-tlv-long}
+use Rattle.wire.proofs.Walk.{no-tail}
 use Rattle.initiation_message.specs.Read.{reader}
 use Rattle.writing.specs.Table.{parts, joined, allOk}
 use Rattle.writing.proofs.Table.{kept-each}
 use Rattle.writing.proofs.Trip.{table-back}
 use Rattle.tlv_table.proofs.Written.{good-fits}
-use Rattle.tlv_table.proofs.Translated.{no-tail-translated}
 use Rattle.initiation_message.specs.Grammar.{Reading, join, ReadTlv, places}
 use Rattle.initiation_message.specs.Shown.{infoOf, zeroTlv, entry}
-use Rattle.initiation_message_writer.specs.Write.{valueOf, partOf, writer, kept, bytesOf, writable, entryOf, SameTlv, Same}
+use Rattle.initiation_message_writer.specs.Write.{valueOf, partOf, writer, kept, bytesOf, writable, SameTlv, Same}
 use Rattle.initiation_message.specs.declared.InitiationTlv.{InitiationTlv}
 use Rattle.initiation_message.specs.declared.InitiationMessage.{InitiationMessage}
 use Rattle.initiation_message.specs.declared.InitiationAnswer.{InitiationAnswer}
-use Rattle.initiation_message_writer.proofs.Written.{fine-from, translates}
+use Rattle.initiation_message_writer.proofs.Written.{fine-from}
 use Rattle.initiation_message.proofs.Shows.{ViewAt}
 use Rattle.initiation_message_writer.proofs.Trip.{ReadsBack}
 
@@ -65,7 +66,7 @@ writable-from m b long inside q x view-so r =
     table-back writer sizeOf entry (ViewAt s) b (λ t u. SameTlv t b u s) zeroTlv (λ at x t. one-part b s at x t)
     (replicate (places - length (q .tlvs)) zeroTlv) (m .tlvs) (m .count) (q .tlvs) (omega (arith, long, few)) (same .count-same) v (same .tlv-same) in
     let z : putTail (q .tail) ≡ [] =
-    no-tail-translated writer 0 false entryOf translates b (kept m) (putTail (q .tail)) (ap (λ (l : List Tlv). joinAll putTlv l (putTail (q .tail))) (sym each) ∙ x .reading .joined) in
+    no-tail putTlv (λ t. 4 + length (t .value)) put-tlv-long (parts writer b (kept m)) (putTail (q .tail)) (ap (λ (l : List Tlv). joinAll putTlv l (putTail (q .tail))) (sym each) ∙ x .reading .joined) in
     let good : EachGood putTlv ReadTlv (parts writer b (kept m)) [] =
     subst (λ (l : List Tlv). EachGood putTlv ReadTlv l []) each (subst (EachGood putTlv ReadTlv (q .tlvs)) z (x .reading .is-good .each)) in
     rw (le-ltb places (m .count) few) (all-fine b (kept m) good (kept-each (λ i. Inside b) (m .tlvs) (m .count) zeroTlv inside))

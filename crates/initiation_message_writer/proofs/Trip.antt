@@ -1,6 +1,6 @@
 -- A record that was written and is read again. Assumes nothing.
 use mathlib.Core.Path.{_≡_, refl, sym, ap, _∙_, subst}
-use mathlib.Core.Bool.{true, false}
+use mathlib.Core.Bool.{true}
 use mathlib.Core.List.{List}
 use Prim.Native.Nat.{ℕ, _≤_}
 use native.Mathlib.Omega.{arith}
@@ -13,17 +13,16 @@ use Rattle.wire.specs.Tlv.{sizeOf}
 use Rattle.wire.proofs.Tlv.{tlv-length}
 use Rattle.writing.specs.Table.{joined, allOk}
 use Rattle.writing.proofs.Tlv.{tlv-good}
-use Rattle.writing.proofs.Table.{all-good, length-parts, length-sizes, Kept}
+use Rattle.writing.proofs.Table.{length-joined, all-good, length-parts, length-sizes, Kept}
 use Rattle.writing.proofs.Trip.{table-same, end-sizes}
-use Rattle.tlv_table.proofs.Translated.{length-translated}
 use Rattle.initiation_message.specs.Grammar.{ReadTlv, Good, places}
 use Rattle.initiation_message.specs.Shown.{zeroTlv, entry, shown}
 use Rattle.initiation_message.specs.Read.{readInitiation}
-use Rattle.initiation_message_writer.specs.Write.{partOf, tlvWritable, writer, kept, readingOf, bytesOf, entryOf, SameTlv, Same}
+use Rattle.initiation_message_writer.specs.Write.{partOf, tlvWritable, writer, kept, readingOf, bytesOf, SameTlv, Same}
 use Rattle.initiation_message.specs.declared.InitiationTlv.{InitiationTlv}
 use Rattle.initiation_message.specs.declared.InitiationMessage.{InitiationMessage}
 use Rattle.initiation_message.specs.declared.InitiationAnswer.{InitiationAnswer}
-use Rattle.initiation_message_writer.proofs.Written.{fine-of, translates}
+use Rattle.initiation_message_writer.proofs.Written.{fine-of, bodied}
 use Rattle.initiation_message.proofs.Shows.{ViewAt}
 
 read-tlv : (b : List ℕ) → Bytes b → (t : InitiationTlv) (l : List InitiationTlv) → tlvWritable (length b) (length l) t ≡ true → allOk writer (length b) l ≡ true
@@ -33,7 +32,7 @@ read-tlv b p t l e w =
     let g = tlv-good _ _ _ b (f .fits) p in
     record {
       well-formed = g;
-      more-than-four = omega (arith, tlv-length (partOf b t) (joined writer b l) g, length-translated writer 0 false entryOf translates b l w, length-sizes writer (λ u. omega arith) l, f .not-last-empty);
+      more-than-four = omega (arith, tlv-length (partOf b t) (joined writer b l) g, length-joined writer bodied b l w, length-sizes writer (λ u. omega arith) l, f .not-last-empty);
     }
 
 pub good-of : (m : InitiationMessage) (b : List ℕ) → Bytes b → allOk writer (length b) (kept m) ≡ true → Good (readingOf m b)
@@ -57,7 +56,7 @@ reads-back m b long x a v =
     record {
       read-good = ap (λ (y : InitiationAnswer). y .refusal .number) a;
       whole = ap (λ (y : InitiationAnswer). y .stop) a ∙ end-sizes writer sizeOf entry (ViewAt s) b (λ n t o. refl) (kept m) 0 (x .fine)
-          ∙ omega (arith, length-translated writer 0 false entryOf translates b (kept m) (x .fine));
+          ∙ omega (arith, length-joined writer bodied b (kept m) (x .fine));
       same = subst (λ (y : InitiationAnswer). Same m b (y .message) s) (sym a) (record {
         count-same = sym (length-parts writer b (kept m) ∙ length-take-le (m .count) (m .tlvs) few);
         tlv-same = table-same writer sizeOf entry (ViewAt s) b (λ t u. SameTlv t b u s) zeroTlv (same-tlv b s) _ (m .tlvs) (m .count) few (x .fine) v;

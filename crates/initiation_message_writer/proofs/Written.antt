@@ -1,20 +1,17 @@
 -- What the writing kit asks of an Initiation body. Assumes nothing.
 use mathlib.Core.Path.{_≡_, refl, sym, _∙_}
-use mathlib.Core.Bool.{true, false}
+use mathlib.Core.Bool.{true}
 use mathlib.Core.List.{List}
 use Prim.Native.Nat.{ℕ}
-use native.Mathlib.Omega.{arith}
-use borrow.Author.Tests.{le-leb}
 use lib.ListN.{length, length-map}
 use mir.Val.{Val}
 use denote.Laws.{Is}
 use denote.Struct.Laws as Struct
 use Rattle.wire.specs.Bytes.{be}
 use Rattle.writing.proofs.Table.{Bodied}
-use Rattle.tlv_table.specs.Tlvs.{entryWritable, oneTlv}
-use Rattle.tlv_table.proofs.Written.{entry-long}
+use Rattle.tlv_table.specs.Tlvs.{entryWritable, entryWritableBefore, walkedTlvFits, oneTlv}
+use Rattle.tlv_table.proofs.Written.{entry-long, writable-before}
 use Rattle.tlv_table.proofs.Walked.{WalkedTlvFits, walked-of, walked-from}
-use Rattle.tlv_table.proofs.Translated.{Translates}
 use Rattle.initiation_message.specs.Grammar.{places}
 use Rattle.initiation_message.specs.Shown.{infoOf}
 use Rattle.initiation_message_writer.specs.Write.{tlvWritable, writer, entryOf}
@@ -39,10 +36,10 @@ pub fine-from : (room after : ℕ) (t : InitiationTlv) → Fine room after t →
 unfolding tlvWritable
 fine-from room after t f = walked-from _ _ _ _ _ f
 
--- ---- what is written for one TLV is that TLV
-pub translates : Translates writer 0 false entryOf
-unfolding tlvWritable entryWritable
-translates = record { ok-same = λ room n t. rw (le-leb 0 (t .«info_len») (omega arith)); size-same = λ t. refl; put-same = λ b t r. refl }
+-- ---- the entry of a TLV is judged as it is
+pub ok-same : (room after : ℕ) (t : InitiationTlv) → entryWritableBefore room after (entryOf t) ≡ tlvWritable room after t
+unfolding tlvWritable walkedTlvFits entryWritable entryWritableBefore
+ok-same room after t = refl
 
 -- ---- the bytes of one TLV alone, as the kit wants them
 abbrev pub oneOf : List ℕ → InitiationTlv → List ℕ
@@ -50,4 +47,8 @@ oneOf b t = oneTlv b (entryOf t)
 
 pub bodied : Bodied writer oneOf
 unfolding be
-bodied = record { put-is = λ b t r. refl; length-is = λ b n t e. entry-long 0 false b n (entryOf t) (translates .ok-same (length b) n t ∙ e) }
+bodied =
+    record {
+      put-is = λ b t r. refl;
+      length-is = λ b n t e. entry-long b (entryOf t) (writable-before (length b) n (entryOf t) (ok-same (length b) n t ∙ e));
+    }

@@ -29,7 +29,7 @@ pub fn write_initiation_message(
         let tlv = message.tlvs[i];
         let entry = entry_of(tlv);
         // The last TLV must not be empty: the reader would take it for a tail.
-        if !tlv_table::entry_writable(entry, 0, false, buffer.len(), count - i - 1) {
+        if !tlv_table::entry_writable_before(entry, buffer.len(), count - i - 1) {
             return writing::write_answer(false, 0, out.len());
         }
         length += tlv_table::tlv_length(entry);

@@ -16,10 +16,9 @@ use Rattle.wire.proofs.Bytes.{bytes-append, bytes-be, bytes-take, bytes-drop, n
 use Rattle.wire.proofs.Views.{bytes-viewed, octets-zeros}
 use Rattle.wire.specs.Exactly.{Shows}
 use Rattle.writing.specs.Table.{parts, allOk}
-use Rattle.writing.proofs.Table.{kept-each}
+use Rattle.writing.proofs.Table.{kept-each, bytes-joined}
 use Rattle.writing.proofs.Trip.{parts-back}
-use Rattle.tlv_table.proofs.Written.{view-long, good-fits}
-use Rattle.tlv_table.proofs.Translated.{bytes-translated}
+use Rattle.tlv_table.proofs.Written.{view-long, good-fits, entry-bytes}
 use Rattle.addresses.specs.Address.{shownIp}
 use Rattle.models.specs.declared.IpAddr.{IpAddr}
 use Rattle.models.proofs.Promises.{equals-is-equality}
@@ -34,7 +33,7 @@ use Rattle.peer_up_notification.specs.declared.PeerUpNotification.{PeerUpNotifi
 use Rattle.peer_up_notification.specs.declared.PeerUpAnswer.{PeerUpAnswer}
 use Rattle.peer_up_notification.proofs.Address.{address-shown}
 use Rattle.peer_up_notification.proofs.Opens.{OneMessage, one-message}
-use Rattle.peer_up_notification_writer.proofs.Written.{fine-from, translates, open-from}
+use Rattle.peer_up_notification_writer.proofs.Written.{fine-from, bodied, open-from}
 use Rattle.peer_up_notification.proofs.Shows.{ViewAt, ShowsParts}
 use Rattle.peer_up_notification_writer.proofs.Trip.{ReadsBack}
 
@@ -86,7 +85,7 @@ bytes-written m b p t =
     (bytes-append (bytes-be 2 (m .«local_port»))
     (bytes-append (bytes-be 2 (m .«remote_port»))
     (bytes-append (bytes-open (bytes-viewed b (m .«sent_open») p))
-    (bytes-append (bytes-open (bytes-viewed b (m .«received_open») p)) (bytes-translated writer 0 true entryOf translates b p (kept m)))))))
+    (bytes-append (bytes-open (bytes-viewed b (m .«received_open») p)) (bytes-joined writer bodied b (λ t. entry-bytes b p (entryOf t)) (kept m)))))))
 
 -- ---- the whole record
 module _ (peer : BmpPeerType) (m : PeerUpNotification) (b : List ℕ) (p : Bytes b) (t : Typed m) (inside : Inside m b) (q : Reading)

@@ -1,6 +1,5 @@
 -- A record that was written and is read again. Assumes nothing.
 use mathlib.Core.Path.{_≡_, refl, sym, ap, _∙_, subst}
-use mathlib.Core.Bool.{true}
 use mathlib.Core.List.{List}
 use Prim.Native.Nat.{ℕ}
 use native.Mathlib.Omega.{arith}
@@ -13,19 +12,18 @@ use Rattle.wire.specs.View.{viewed}
 use Rattle.wire.proofs.Bytes.{bytes-drop}
 use Rattle.wire.proofs.Views.{octets-zeros}
 use Rattle.writing.proofs.Tlv.{tlv-good}
-use Rattle.writing.proofs.Table.{all-good, length-parts}
+use Rattle.writing.proofs.Table.{length-joined, all-good, length-parts}
 use Rattle.writing.proofs.Trip.{each-same, end-sizes}
-use Rattle.tlv_table.proofs.Translated.{length-translated}
 use Rattle.peer_type.specs.declared.BmpPeerType.{BmpPeerType}
 use Rattle.peer_up_notification.specs.Grammar.{ReadTlv, skippedFor, Good}
 use Rattle.peer_up_notification.specs.Shown.{zeroTlv, entry, tlvsAt, shown, kept}
 use Rattle.peer_up_notification.specs.Read.{readPeerUp}
-use Rattle.peer_up_notification_writer.specs.Write.{writer, readingOf, bytesOf, entryOf, Typed, SameTlv, Same}
+use Rattle.peer_up_notification_writer.specs.Write.{writer, readingOf, bytesOf, Typed, SameTlv, Same}
 use Rattle.peer_up_notification.specs.declared.PeerUpNotificationTlv.{PeerUpNotificationTlv}
 use Rattle.peer_up_notification.specs.declared.PeerUpNotification.{PeerUpNotification}
 use Rattle.peer_up_notification.specs.declared.PeerUpAnswer.{PeerUpAnswer}
 use Rattle.peer_up_notification.proofs.Opens.{open-good, open-back}
-use Rattle.peer_up_notification_writer.proofs.Written.{fine-of, translates, one-of, Writes, length-bytes}
+use Rattle.peer_up_notification_writer.proofs.Written.{fine-of, bodied, one-of, Writes, length-bytes}
 use Rattle.peer_up_notification.proofs.Shows.{address-field, ViewAt, ShowsParts}
 
 pub good-of : (m : PeerUpNotification) (b : List ℕ) → Bytes b → Typed m → Writes m b → Good (m .«local_addr» .afi) (readingOf m b)
@@ -63,7 +61,7 @@ reads-back peer m b p t w a v =
       read-good = ap (λ (y : PeerUpAnswer). y .refusal .number) a;
       whole = ap (λ (y : PeerUpAnswer). y .stop) a
           ∙ end-sizes writer sizeOf entry (ViewAt s) b (λ n t o. refl) (kept m) (tlvsAt (readingOf m b)) fine
-          ∙ omega (arith, length-bytes m b (w .front) (t .octets .many) p, length-translated writer 0 true entryOf translates b (kept m) fine, w .front .sent .size-is, w .front .received .size-is);
+          ∙ omega (arith, length-bytes m b (w .front) (t .octets .many) p, length-joined writer bodied b (kept m) fine, w .front .sent .size-is, w .front .received .size-is);
       same = subst (λ (y : PeerUpAnswer). Same m b (y .message) s) (sym a) (record {
         address-same = sym (w .front .address-is);
         local-port-same = refl;

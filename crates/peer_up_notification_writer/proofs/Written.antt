@@ -21,7 +21,6 @@ use Rattle.writing.proofs.Tlv.{TlvFits, fits-of, fits-from}
 use Rattle.writing.proofs.Table.{Bodied, Kept, kept-of}
 use Rattle.tlv_table.specs.Tlvs.{entryWritable, oneTlv}
 use Rattle.tlv_table.proofs.Written.{view-long, entry-long}
-use Rattle.tlv_table.proofs.Translated.{Translates}
 use Rattle.addresses.specs.Address.{shownIp}
 use Rattle.models.specs.declared.IpAddr.{IpAddr}
 use Rattle.models.proofs.Promises.{equals-is-equality}
@@ -43,10 +42,10 @@ pub fine-from : (room : ℕ) (t : PeerUpNotificationTlv) → TlvFits (t .kind) (
 unfolding tlvWritable
 fine-from room t f = fits-from _ _ _ _ f
 
--- what is written for one TLV is that TLV
-pub translates : Translates writer 0 true entryOf
+-- the entry of a TLV is judged as it is
+pub ok-same : (bufferLength : ℕ) (t : PeerUpNotificationTlv) → entryWritable bufferLength (entryOf t) ≡ tlvWritable bufferLength t
 unfolding tlvWritable entryWritable
-translates = record { ok-same = λ room n t. rw (le-leb 0 (t .«info_len») (omega arith)); size-same = λ t. refl; put-same = λ b t r. refl }
+ok-same bufferLength t = refl
 
 -- ---- the bytes of one TLV alone, as the kit wants them
 abbrev pub oneOf : List ℕ → PeerUpNotificationTlv → List ℕ
@@ -54,7 +53,7 @@ oneOf b t = oneTlv b (entryOf t)
 
 pub bodied : Bodied writer oneOf
 unfolding be
-bodied = record { put-is = λ b t r. refl; length-is = λ b n t e. entry-long 0 true b n (entryOf t) (translates .ok-same (length b) n t ∙ e) }
+bodied = record { put-is = λ b t r. refl; length-is = λ b n t e. entry-long b (entryOf t) (ok-same (length b) t ∙ e) }
 
 -- ---- a BGP message
 pub record FineOpen (b : List ℕ) (v : View) : Type 0 where

@@ -39,7 +39,7 @@ pub fn write_peer_up_notification(
     while i < count {
         let tlv = message.tlvs[i];
         let entry = entry_of(tlv);
-        if !tlv_table::entry_writable(entry, 0, true, buffer.len(), 0) {
+        if !tlv_table::entry_writable(entry, buffer.len()) {
             return writing::write_answer(false, 0, out.len());
         }
         length += tlv_table::tlv_length(entry);

@@ -1,7 +1,7 @@
 -- What the writing kit asks of a Route Mirroring body. Assumes nothing.
 use mathlib.Core.Path.{_≡_, refl, sym, ap, _∙_}
 use mathlib.Core.Bool.{Bool, true, false}
-use mathlib.Core.List.{List, [], _∷_, _++_}
+use mathlib.Core.List.{List, [], _++_}
 use Prim.Native.Nat.{ℕ, zero, suc, _+_, _≤_, _<_}
 use native.Mathlib.Omega.{arith}
 use borrow.Author.Tests.{leb-true, le-leb, eqb-true, eq-eqb}
@@ -10,21 +10,19 @@ use lib.ListN.{length, length-map, length-append}
 use mir.Val.{Val}
 use denote.Laws.{Is}
 use denote.Struct.Laws as Struct
-use Rattle.wire.specs.Bytes.{pick, be, Bytes, none}
+use Rattle.wire.specs.Bytes.{pick, be}
 use Rattle.wire.specs.Parts.{joinAll}
-use Rattle.wire.proofs.Bytes.{bytes-be, bytes-append}
-use Rattle.wire.proofs.Views.{bytes-viewed}
 use Rattle.wire.proofs.Walk as Walk
 use Rattle.wire.specs.declared.View.{View}
 use Rattle.writing.specs.Write.{tlvFits}
-use Rattle.writing.specs.Table.{joined}
 use Rattle.writing.proofs.Tlv.{TlvFits, fits-of, fits-from}
 use Rattle.writing.proofs.Table.{Bodied}
 use Rattle.tlv_table.specs.Tlvs.{entryWritable, oneTlv}
+use Rattle.tlv_table.specs.declared.TlvEntry.{TlvEntry}
 use Rattle.tlv_table.proofs.Written.{entry-long}
 use Rattle.route_mirroring.specs.Grammar.{Tlv, bgpMessage, information, put, places}
-use Rattle.route_mirroring.specs.Shown.{codeOf, valueOf}
-use Rattle.route_mirroring_writer.specs.Write.{valuePart, known, valueWritable, tlvWritable, writer, valueEntry, entryOf}
+use Rattle.route_mirroring.specs.Shown.{valueOf}
+use Rattle.route_mirroring_writer.specs.Write.{valuePart, known, valueWritable, tlvWritable, writer, valueEntry, entryOf, hasHeader}
 use Rattle.route_mirroring.specs.declared.RouteMirroringValue.{RouteMirroringValue}
 use Rattle.route_mirroring.specs.declared.RouteMirroringValue.the-variants.{BgpMessage, Information}
 use Rattle.route_mirroring.specs.declared.RouteMirroringTlv.{RouteMirroringTlv}
@@ -103,10 +101,24 @@ fine-from room t f =
     rw (known-from (t .kind) (t .«info_len») (t .number) (f .is-known)) (value-from room (t .«info_len») (valueOf t) (f .fine-value))
 
 -- ---- what is written for one TLV is that TLV, and is writable where its value is
-pub ok-same : (room after size : ℕ) (x : RouteMirroringValue) → entryWritable 19 true room after (valueEntry size x) ≡ valueWritable room size x
+ok-same : (room size : ℕ) (x : RouteMirroringValue)
+    → pick (hasHeader (valueEntry size x .size) (valueEntry size x .value)) (entryWritable room (valueEntry size x)) false ≡ valueWritable room size x
 unfolding entryWritable
-ok-same room after size (BgpMessage v) = refl
-ok-same room after size (Information i) = refl
+ok-same room size (BgpMessage v) = refl
+ok-same room size (Information i) = refl
+
+-- so its entry decides, where type and code are known
+pub entry-decides : (room : ℕ) (t : RouteMirroringTlv) (e : TlvEntry) → known t ≡ true → e ≡ entryOf t
+    → pick (hasHeader (e .size) (e .value)) (entryWritable room e) false ≡ tlvWritable room t
+unfolding tlvWritable
+entry-decides room t e k p =
+    ap (λ (x : TlvEntry). pick (hasHeader (x .size) (x .value)) (entryWritable room x) false) p ∙ ok-same room (t .«info_len») (valueOf t)
+    ∙ ap (λ (a : Bool). pick a (valueWritable room (t .«info_len») (valueOf t)) false) (sym k)
+
+entry-ok : (room size : ℕ) (x : RouteMirroringValue) → valueWritable room size x ≡ true → entryWritable room (valueEntry size x) ≡ true
+unfolding entryWritable
+entry-ok room size (BgpMessage v) e = fits-from _ _ _ _ (value-of room size (BgpMessage v) e .fits)
+entry-ok room size (Information i) e = e
 
 value-size : (size : ℕ) (x : RouteMirroringValue) → valueEntry size x .size ≡ size
 value-size size (BgpMessage v) = refl
@@ -129,19 +141,11 @@ bodied =
     record {
       put-is = λ b t r. put-same b (t .«info_len») (valueOf t) r;
       length-is = λ b n t e.
-          entry-long 19 true b n (entryOf t) (ok-same (length b) n (t .«info_len») (valueOf t) ∙ both-of (length b) t e .1)
+          entry-long b (entryOf t) (entry-ok (length b) (t .«info_len») (valueOf t) (both-of (length b) t e .1))
           ∙ size-same t;
     }
 
--- ---- they are bytes, and nothing behind them is theirs
-put-bytes : (b : List ℕ) → Bytes b → (size : ℕ) (x : RouteMirroringValue) (r : List ℕ) → Bytes r → Bytes (put (valuePart b size x) r)
-put-bytes b p size (BgpMessage v) r q = bytes-append (bytes-be 2 0) (bytes-append (bytes-be 2 size) (bytes-append (bytes-viewed b v p) q))
-put-bytes b p size (Information i) r q = bytes-append (bytes-be 2 1) (bytes-append (bytes-be 2 size) (bytes-append (bytes-be 2 (codeOf i)) q))
-
-pub bytes-joined : (b : List ℕ) → Bytes b → (l : List RouteMirroringTlv) → Bytes (joined writer b l)
-bytes-joined b p [] = none
-bytes-joined b p (t ∷ l) = put-bytes b p (t .«info_len») (valueOf t) (joined writer b l) (bytes-joined b p l)
-
+-- ---- nothing behind them is theirs
 abbrev longOf : Tlv → ℕ
 longOf (bgpMessage size value) = 4 + length value
 longOf (information size code) = 6

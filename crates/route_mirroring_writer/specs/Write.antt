@@ -9,6 +9,7 @@ use Rattle.wire.specs.Bytes.{pick}
 use Rattle.wire.specs.View.{viewed}
 use Rattle.writing.specs.Write.{tlvFits}
 use Rattle.writing.specs.Table.{Writer, parts, allOk}
+use Rattle.tlv_table.specs.declared.TlvValue.{TlvValue}
 use Rattle.tlv_table.specs.declared.TlvValue.the-variants.{Part, Number}
 use Rattle.tlv_table.specs.declared.TlvEntry.{TlvEntry}
 use Rattle.route_mirroring.specs.Grammar.{Tlv, bgpMessage, information, put, Reading, join, places}
@@ -73,6 +74,11 @@ valueEntry size (Information i) = record { kind = 1; size = size; value = Number
 
 abbrev pub entryOf : RouteMirroringTlv → TlvEntry
 entryOf t = valueEntry (t .«info_len») (valueOf t)
+
+-- a part of at least 19 bytes
+abbrev pub hasHeader : ℕ → TlvValue → Bool
+hasHeader size (Part v) = leb 19 size
+hasHeader size (Number n) = true
 
 -- ---- two records are the same: their numbers below the count, and the bytes that their views show, each in its own buffer
 abbrev pub SameValue : RouteMirroringValue → List ℕ → RouteMirroringValue → List ℕ → Type 0

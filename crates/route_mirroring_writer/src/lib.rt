@@ -8,7 +8,7 @@ use writing::WriteAnswer;
 ghost use mathlib.Core.Path.{_≡_};
 ghost use lib.ListN.{length};
 ghost use Rattle.writing.specs.Write.{writeAnswer, written};
-ghost use Rattle.route_mirroring_writer.specs.Write.{known, tlvWritable, entryOf, bytesOf, writable};
+ghost use Rattle.route_mirroring_writer.specs.Write.{known, tlvWritable, hasHeader, entryOf, bytesOf, writable};
 
 // Writes the message, whose views point into the buffer, to the front of the output. The table is judged and measured in one pass
 // and written in a second, where it stands.
@@ -47,15 +47,28 @@ pub fn write_route_mirroring(message: RouteMirroring, buffer: &[u8], out: &mut [
     answer
 }
 
-// A part is a BGP message, which has at least its header.
-fn tlv_writable(tlv: RouteMirroringTlv, room: usize) -> bool
-    ensures { λ r. ⌜ r ≡ tlvWritable room tlv ⌝ }
+fn tlv_writable(tlv: RouteMirroringTlv, buffer_length: usize) -> bool
+    ensures { λ r. ⌜ r ≡ tlvWritable «buffer_length» tlv ⌝ }
 {
     if !is_known(tlv) {
         return false;
     }
     let entry = entry_of(tlv);
-    tlv_table::entry_writable(entry, 19, true, room, 0)
+    if !has_header(entry) {
+        return false;
+    }
+    tlv_table::entry_writable(entry, buffer_length)
+}
+
+// A part is a BGP message, which has at least its header.
+fn has_header(entry: TlvEntry) -> bool
+    ensures { λ r. ⌜ r ≡ hasHeader (entry .size) (entry .value) ⌝ }
+{
+    let value = entry.value;
+    match value {
+        TlvValue::Part(_) => 19 <= entry.size,
+        TlvValue::Number(_) => true,
+    }
 }
 
 // The reader shows no type above 1, and no code above 1.

@@ -17,9 +17,9 @@ use Rattle.wire.proofs.Views.{bytes-viewed}
 use Rattle.wire.proofs.Tlv.{put-tlv-long, coded-length}
 use Rattle.writing.specs.Table.{joined}
 use Rattle.writing.proofs.Table.{Bodied}
-use Rattle.tlv_table.specs.Tlvs.{walkedTlvFits, entryWritable, oneTlv}
+use Rattle.tlv_table.specs.Tlvs.{walkedTlvFits, entryWritable, entryWritableBefore, oneTlv}
 use Rattle.tlv_table.specs.declared.TlvValue.the-variants.{Part, Number}
-use Rattle.tlv_table.proofs.Written.{entry-long}
+use Rattle.tlv_table.proofs.Written.{entry-long, writable-before}
 use Rattle.tlv_table.proofs.Walked.{WalkedTlvFits, walked-of, walked-from}
 use Rattle.termination_message.specs.Grammar.{Tlv, string, reason, put, places}
 use Rattle.termination_message.specs.Shown.{textOf}
@@ -69,13 +69,13 @@ fine-from room after t (a-code k s v) =
     rw (ne-eqb (t .kind) 0 (λ z. omega arith), le-ltb 1 (t .kind) (omega arith), eq-eqb (t .«info_len») 2 s) (le-leb (t .number) 4 v)
 
 -- ---- the entry of a String is judged as it is, and that of a Reason is writable where it is
-pub text-ok : (room after : ℕ) (t : TerminationTlv) → t .kind ≡ 0 → entryWritable 0 false room after (entryOf t) ≡ tlvWritable room after t
-unfolding tlvWritable entryWritable
-text-ok room after t k = rw (eq-eqb (t .kind) 0 k, le-leb 0 (t .«info_len») (omega arith))
+pub text-ok : (room after : ℕ) (t : TerminationTlv) → t .kind ≡ 0 → entryWritableBefore room after (entryOf t) ≡ tlvWritable room after t
+unfolding tlvWritable walkedTlvFits entryWritable entryWritableBefore
+text-ok room after t k = rw (eq-eqb (t .kind) 0 k)
 
-entry-ok : (room after : ℕ) (t : TerminationTlv) → Fine room after t → entryWritable 0 false room after (entryOf t) ≡ true
+entry-ok : (room after : ℕ) (t : TerminationTlv) → Fine room after t → entryWritable room (entryOf t) ≡ true
 unfolding entryWritable
-entry-ok room after t (a-text k f) = text-ok room after t k ∙ fine-from room after t (a-text k f)
+entry-ok room after t (a-text k f) = writable-before room after (entryOf t) (text-ok room after t k ∙ fine-from room after t (a-text k f))
 entry-ok room after t (a-code k s v) = rw (ne-eqb (t .kind) 0 (λ z. omega arith)) (eq-eqb (t .«info_len») 2 s)
 
 -- ---- the bytes of one TLV alone, as the kit wants them
@@ -99,7 +99,7 @@ put-one b t r = go (eqb (t .kind) 0)
     go false = ap (λ (l : List ℕ). be 2 1 ++ (be 2 (t .«info_len») ++ (l ++ r))) (two-bytes (t .number))
 
 pub bodied : Bodied writer oneOf
-bodied = record { put-is = put-one; length-is = λ b n t e. entry-long 0 false b n (entryOf t) (entry-ok (length b) n t (fine-of (length b) n t e)) }
+bodied = record { put-is = put-one; length-is = λ b n t e. entry-long b (entryOf t) (entry-ok (length b) n t (fine-of (length b) n t e)) }
 
 -- ---- all of them are bytes, and have a length
 put-bytes : (b : List ℕ) → Bytes b → (t : TerminationTlv) (r : List ℕ) → Bytes r → Bytes (put (partOf b t) r)

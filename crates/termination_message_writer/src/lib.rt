@@ -52,12 +52,12 @@ pub fn write_termination_message(
 }
 
 // The last TLV must not be an empty String: the reader would take it for a tail.
-fn tlv_writable(tlv: TerminationTlv, room: usize, after: usize) -> bool
-    ensures { λ r. ⌜ r ≡ tlvWritable room after tlv ⌝ }
+fn tlv_writable(tlv: TerminationTlv, buffer_length: usize, after: usize) -> bool
+    ensures { λ r. ⌜ r ≡ tlvWritable «buffer_length» after tlv ⌝ }
 {
     let kind = tlv.kind;
     if kind == 0 {
-        return tlv_table::entry_writable(entry_of(tlv), 0, false, room, after);
+        return tlv_table::entry_writable_before(entry_of(tlv), buffer_length, after);
     }
     if 1 < kind {
         return false;

@@ -1,4 +1,3 @@
 pub mod Walked
 pub mod Written
-pub mod Translated
 pub mod Promises

@@ -27,9 +27,9 @@ put-determined out at b out′ out″ = determined
 pub write-answer-determined : (ok : Bool) (n room : ℕ) (r q : WriteAnswer) → r ≡ writeAnswer ok n room → q ≡ writeAnswer ok n room → r ≡ q
 write-answer-determined ok n room r q = determined
 
--- Two answers of tlv_fits for the same TLV and room are equal.
-pub tlv-fits-determined : (kind size : ℕ) (v : View) (room : ℕ) (r q : Bool) → r ≡ tlvFits kind size v room → q ≡ tlvFits kind size v room → r ≡ q
-tlv-fits-determined kind size v room r q = determined
+-- Two answers of tlv_fits for the same TLV and length of the buffer are equal.
+pub tlv-fits-determined : (kind size : ℕ) (v : View) (bufferLength : ℕ) (r q : Bool) → r ≡ tlvFits kind size v bufferLength → q ≡ tlvFits kind size v bufferLength → r ≡ q
+tlv-fits-determined kind size v bufferLength r q = determined
 
 -- ---- a put
 -- Bytes that fit stand at their place, with all before and behind them as it was; bytes that do not fit change nothing.

@@ -1,20 +1,18 @@
--- The laws of writing a table, proved once for every kind: what each of a writer's loops does with the entry at i. Assumes nothing.
+-- The laws of writing a table, proved once for every kind: the entry at i, and the bytes of writable entries. Assumes nothing.
 use mathlib.Core.Path.{_≡_, refl, sym, ap, _∙_, subst}
 use mathlib.Core.List.{List, [], _∷_, _++_}
 use mathlib.Core.Bool.{Bool, true, false}
 use Prim.Native.Nat.{ℕ, suc, _+_, _-_, _≤_, _<_}
 use native.Mathlib.Omega.{arith}
 use native.Mathlib.Numerals.{add-one}
-use native.Mathlib.Nat.{zero-add}
 use borrow.Author.Tests.{ltb-false}
 use lib.Dec.{ltb}
 use lib.ListN.{length, take, drop, getD, length-append, length-take, length-drop, drop-of-length-le}
-use lib.Seq.{drop-cons, getD-take, length-take-le, sets, length-sets}
-use Rattle.wire.specs.Bytes.{pick}
+use lib.Seq.{drop-cons, getD-take, length-take-le}
+use Rattle.wire.specs.Bytes.{pick, Bytes, none}
 use Rattle.wire.specs.Parts.{EachGood}
-use Rattle.writing.specs.Write.{putAt}
+use Rattle.wire.proofs.Bytes.{bytes-append}
 use Rattle.writing.specs.Table.{Writer, parts, joined, allOk, sizes}
-use Rattle.writing.proofs.Sets.{sets-append, put-fits}
 
 -- ---- the entry at i of the first n, and what follows it
 pub record At {A : Type 0} (table : List A) (n i : ℕ) (t : A) : Type 0 where
@@ -45,25 +43,10 @@ pub kept-each : {A : Type 0} (P : ℕ → A → Type 0) (table : List A) (n : �
 kept-each P table n d each i h = subst (P i) (sym (kept-at table n i d h)) (each i (kept-below table n i h))
 
 module _ (W : Writer) where
-  -- ---- judged: the entries from i on decide
-  module _ (table : List (W .Entry)) (n i : ℕ) (t : W .Entry) (a : At table n i t) (room : ℕ) (w : Bool) (so-far : w ≡ allOk W room (drop i (take n table))) where
-    pub bad-here : W .ok room (n - i - 1) t ≡ false → false ≡ w
-    bad-here e = sym (so-far ∙ rw (a .is, a .behind, e))
-
-    pub good-here : W .ok room (n - i - 1) t ≡ true → w ≡ allOk W room (drop (i + 1) (take n table))
-    good-here e = so-far ∙ rw (a .is, a .behind, e)
-
-  -- ---- added up
-  pub sum-here : (table : List (W .Entry)) (n i : ℕ) (t : W .Entry) → At table n i t → (m k : ℕ) → m + sizes W (drop i (take n table)) ≡ k
-      → m + W .size t + sizes W (drop (i + 1) (take n table)) ≡ k
-  sum-here table n i t a m k e =
-      let s : sizes W (drop i (take n table)) ≡ W .size t + sizes W (drop (i + 1) (take n table)) = rw (a .is) in
-      omega arith
-
-  pub ok-head : (room : ℕ) (t : W .Entry) (l : List (W .Entry)) → allOk W room (t ∷ l) ≡ true → (W .ok room (length l) t ≡ true) × (allOk W room l ≡ true)
-  ok-head room t l e = go (W .ok room (length l) t) refl e
+  pub ok-head : (bufferLength : ℕ) (t : W .Entry) (l : List (W .Entry)) → allOk W bufferLength (t ∷ l) ≡ true → (W .ok bufferLength (length l) t ≡ true) × (allOk W bufferLength l ≡ true)
+  ok-head bufferLength t l e = go (W .ok bufferLength (length l) t) refl e
     where
-      go : (c : Bool) → W .ok room (length l) t ≡ c → pick c (allOk W room l) false ≡ true → (W .ok room (length l) t ≡ true) × (allOk W room l ≡ true)
+      go : (c : Bool) → W .ok bufferLength (length l) t ≡ c → pick c (allOk W bufferLength l) false ≡ true → (W .ok bufferLength (length l) t ≡ true) × (allOk W bufferLength l ≡ true)
       go true h q = (h, q)
       go false h q = let z : _≡_ {A = ℕ} 0 1 = cc in absurd (omega arith)
 
@@ -80,57 +63,9 @@ module _ (W : Writer) where
         ap length (B .put-is b t (joined W b l)) ∙ length-append (one b t) (joined W b l)
         ∙ rw (B .length-is b (length l) t (f .0), length-joined b l (f .1))
 
-    -- ---- written: the bytes of the entries from i on, put where the writer stands, give the whole output
-    pub record Going (b out₀ all : List ℕ) (l : List (W .Entry)) (at : ℕ) (out : List ℕ) : Type 0 where
-      pub fine : allOk W (length b) l ≡ true
-      pub room : at + sizes W l ≤ length out
-      pub long : length out ≡ length out₀
-      pub so-far : sets out₀ 0 all ≡ sets out at (joined W b l)
-
-    -- the entries behind bytes that are there already: none, or as a count in front of them
-    pub starts : (b out₀ out front : List ℕ) (l : List (W .Entry)) → out ≡ sets out₀ 0 front → allOk W (length b) l ≡ true
-        → length front + sizes W l ≤ length out₀ → Going b out₀ (front ++ joined W b l) l (length front) out
-    starts b out₀ out front l e w h =
-        let m : length out ≡ length out₀ = ap length e ∙ length-sets out₀ 0 front in
-        record {
-          fine = w;
-          room = omega (arith, h, m);
-          long = m;
-          so-far = sets-append front (joined W b l) out₀ 0 ∙ rw (zero-add (length front), e);
-        }
-
-    pub ends : (b out₀ all : List ℕ) (l : List (W .Entry)) (at : ℕ) (out : List ℕ) → l ≡ [] → Going b out₀ all l at out → out ≡ sets out₀ 0 all
-    ends b out₀ all l at out e g = sym (subst (λ (k : List (W .Entry)). Going b out₀ all k at out) e g .so-far)
-
-    module _ (table : List (W .Entry)) (n i : ℕ) (t : W .Entry) (a : At table n i t) (b out₀ all : List ℕ) (at : ℕ) (out : List ℕ)
-        (g : Going b out₀ all (drop i (take n table)) at out) where
-      now-at : Going b out₀ all (t ∷ drop (i + 1) (take n table)) at out
-      now-at = subst (λ (l : List (W .Entry)). Going b out₀ all l at out) (a .is) g
-
-      -- the entry is writable, and there is room for it
-      pub asks : (W .ok (length b) (n - i - 1) t ≡ true) × (at + W .size t ≤ length out)
-      asks =
-          let x = now-at in
-          let f = ok-head (length b) t (drop (i + 1) (take n table)) (x .fine) in
-          (subst (λ (k : ℕ). W .ok (length b) k t ≡ true) (a .behind) (f .0), omega (arith, x .room))
-
-      pub turned : (out′ : List ℕ) (at′ : ℕ) → at′ ≡ at + W .size t → out′ ≡ putAt out at (one b t)
-          → Going b out₀ all (drop (i + 1) (take n table)) at′ out′
-      turned out′ at′ p e =
-          let x = now-at in
-          let l = drop (i + 1) (take n table) in
-          let f = ok-head (length b) t l (x .fine) in
-          let d = B .length-is b (length l) t (f .0) in
-          let q : out′ ≡ sets out at (one b t) = e ∙ put-fits out at (one b t) (omega (arith, d, x .room)) in
-          let m : length out′ ≡ length out = ap length q ∙ length-sets out at (one b t) in
-          let k : at + length (one b t) ≡ at′ = omega (arith, d, p) in
-          record {
-            fine = f .1;
-            room = omega (arith, x .room, m, p);
-            long = m ∙ x .long;
-            so-far = x .so-far ∙ ap (sets out at) (B .put-is b t (joined W b l)) ∙ sets-append (one b t) (joined W b l) out at
-                ∙ ap (λ (o : List ℕ). sets o (at + length (one b t)) (joined W b l)) (sym q) ∙ ap (λ (j : ℕ). sets out′ j (joined W b l)) k;
-          }
+    pub bytes-joined : (b : List ℕ) → ((t : W .Entry) → Bytes (one b t)) → (l : List (W .Entry)) → Bytes (joined W b l)
+    bytes-joined b p [] = none
+    bytes-joined b p (t ∷ l) = subst Bytes (sym (B .put-is b t (joined W b l))) (bytes-append (p t) (bytes-joined b p l))
 
   -- ---- the reading of writable entries is good, where each entry's item is
   pub all-good : (G : W .Item → List ℕ → Type 0) (b : List ℕ)
@@ -144,15 +79,15 @@ module _ (W : Writer) where
   length-parts b (t ∷ l) = ap suc (length-parts b l)
 
   -- ---- what a writer asks of the first n entries of its table, which has room for so many
-  pub record Kept (places n : ℕ) (table : List (W .Entry)) (room : ℕ) : Type 0 where
+  pub record Kept (places n : ℕ) (table : List (W .Entry)) (bufferLength : ℕ) : Type 0 where
     pub few : n ≤ places
-    pub fine : allOk W room (take n table) ≡ true
+    pub fine : allOk W bufferLength (take n table) ≡ true
 
-  pub kept-of : (places n : ℕ) (table : List (W .Entry)) (room : ℕ) → pick (ltb places n) false (allOk W room (take n table)) ≡ true
-      → Kept places n table room
-  kept-of places n table room e = go (ltb places n) refl e
+  pub kept-of : (places n : ℕ) (table : List (W .Entry)) (bufferLength : ℕ) → pick (ltb places n) false (allOk W bufferLength (take n table)) ≡ true
+      → Kept places n table bufferLength
+  kept-of places n table bufferLength e = go (ltb places n) refl e
     where
-      go : (c : Bool) → ltb places n ≡ c → pick c false (allOk W room (take n table)) ≡ true → Kept places n table room
+      go : (c : Bool) → ltb places n ≡ c → pick c false (allOk W bufferLength (take n table)) ≡ true → Kept places n table bufferLength
       go true h q = let z : _≡_ {A = ℕ} 0 1 = cc in absurd (omega arith)
       go false h q = record { few = ltb-false places n h; fine = q }
 

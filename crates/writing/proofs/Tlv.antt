@@ -14,21 +14,21 @@ use Rattle.wire.specs.declared.View.{View}
 use Rattle.wire.proofs.Views.{inside-is, viewed-inside, length-part, bytes-viewed}
 use Rattle.writing.specs.Write.{tlvFits}
 
-pub record TlvFits (kind size : ℕ) (v : View) (room : ℕ) : Type 0 where
+pub record TlvFits (kind size : ℕ) (v : View) (bufferLength : ℕ) : Type 0 where
   pub kind-fits : kind < 256 ^ 2
   pub size-fits : size < 256 ^ 2
   pub view-is : v .length ≡ size
-  pub within : v .place + v .length ≤ room
+  pub within : v .place + v .length ≤ bufferLength
 
-pub fits-of : (kind size : ℕ) (v : View) (room : ℕ) → tlvFits kind size v room ≡ true → TlvFits kind size v room
+pub fits-of : (kind size : ℕ) (v : View) (bufferLength : ℕ) → tlvFits kind size v bufferLength ≡ true → TlvFits kind size v bufferLength
 unfolding tlvFits
-fits-of kind size v room e = go (ltb kind (256 ^ 2)) refl (ltb size (256 ^ 2)) refl (eqb (v .length) size) refl e
+fits-of kind size v bufferLength e = go (ltb kind (256 ^ 2)) refl (ltb size (256 ^ 2)) refl (eqb (v .length) size) refl e
   where
-    no : false ≡ true → TlvFits kind size v room
+    no : false ≡ true → TlvFits kind size v bufferLength
     no q = let z : _≡_ {A = ℕ} 0 1 = cc in absurd (omega arith)
 
     go : (a : Bool) → ltb kind (256 ^ 2) ≡ a → (b : Bool) → ltb size (256 ^ 2) ≡ b → (c : Bool) → eqb (v .length) size ≡ c
-        → pick a (pick b (pick c (inside room v) false) false) false ≡ true → TlvFits kind size v room
+        → pick a (pick b (pick c (inside bufferLength v) false) false) false ≡ true → TlvFits kind size v bufferLength
     go false ha b hb c hc q = no q
     go true ha false hb c hc q = no q
     go true ha true hb false hc q = no q
@@ -37,13 +37,13 @@ fits-of kind size v room e = go (ltb kind (256 ^ 2)) refl (ltb size (256 ^ 2)) r
           kind-fits = ltb-true kind (256 ^ 2) ha;
           size-fits = ltb-true size (256 ^ 2) hb;
           view-is = eqb-true (v .length) size hc;
-          within = leb-true (v .place + v .length) room q;
+          within = leb-true (v .place + v .length) bufferLength q;
         }
 
-pub fits-from : (kind size : ℕ) (v : View) (room : ℕ) → TlvFits kind size v room → tlvFits kind size v room ≡ true
+pub fits-from : (kind size : ℕ) (v : View) (bufferLength : ℕ) → TlvFits kind size v bufferLength → tlvFits kind size v bufferLength ≡ true
 unfolding tlvFits
-fits-from kind size v room f =
-    rw (lt-ltb kind (256 ^ 2) (f .kind-fits), lt-ltb size (256 ^ 2) (f .size-fits), eq-eqb (v .length) size (f .view-is)) (inside-is room v (f .within))
+fits-from kind size v bufferLength f =
+    rw (lt-ltb kind (256 ^ 2) (f .kind-fits), lt-ltb size (256 ^ 2) (f .size-fits), eq-eqb (v .length) size (f .view-is)) (inside-is bufferLength v (f .within))
 
 -- its reading is a good TLV
 module _ (kind size : ℕ) (v : View) (b : List ℕ) (f : TlvFits kind size v (length b)) where

@@ -26,8 +26,8 @@ abbrev pub joined : (W : Writer) → List ℕ → List (W .Entry) → List ℕ
 joined W b l = joinAll (W .put) (parts W b l) []
 
 abbrev pub allOk : (W : Writer) → ℕ → List (W .Entry) → Bool
-allOk W room [] = true
-allOk W room (t ∷ l) = pick (W .ok room (length l) t) (allOk W room l) false
+allOk W bufferLength [] = true
+allOk W bufferLength (t ∷ l) = pick (W .ok bufferLength (length l) t) (allOk W bufferLength l) false
 
 abbrev pub sizes : (W : Writer) → List (W .Entry) → ℕ
 sizes W [] = 0

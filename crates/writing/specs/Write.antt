@@ -56,5 +56,5 @@ tlvBytes kind size bytes = be 2 kind ++ (be 2 size ++ bytes)
 -- it can be written from a view of a buffer of this length: type and length fit two bytes, and the view has that length and lies
 -- inside the buffer
 unfoldable pub tlvFits : ℕ → ℕ → View → ℕ → Bool
-tlvFits kind size v room =
-    pick (ltb kind (256 ^ 2)) (pick (ltb size (256 ^ 2)) (pick (eqb (v .length) size) (inside room v) false) false) false
+tlvFits kind size v bufferLength =
+    pick (ltb kind (256 ^ 2)) (pick (ltb size (256 ^ 2)) (pick (eqb (v .length) size) (inside bufferLength v) false) false) false

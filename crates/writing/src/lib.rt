@@ -24,15 +24,15 @@ pub fn put_bytes(out: &mut [u8], at: usize, bytes: &[u8])
     }
 }
 
-// Whether a TLV can be written from a view of a buffer of length room. A two-byte type always can: it is asked for so that the
+// Whether a TLV can be written from a view of a buffer of this length. A two-byte type always can: it is asked for so that the
 // definition speaks of whole TLVs.
-pub fn tlv_fits(kind: u16, size: u16, view: View, room: usize) -> bool
-    ensures { λ r. ⌜ r ≡ tlvFits kind size view room ⌝ }
+pub fn tlv_fits(kind: u16, size: u16, view: View, buffer_length: usize) -> bool
+    ensures { λ r. ⌜ r ≡ tlvFits kind size view «buffer_length» ⌝ }
 {
     if view.length != (size as usize) {
         return false;
     }
-    view.is_inside(room)
+    view.is_inside(buffer_length)
 }
 
 // A writer's answer by whether its record is writable, the length that it would write and the room there is.

@@ -3,7 +3,6 @@ use borrow.Author.Tests.{not-true, not-false}
 use native.Mathlib.Omega.{arith}
 use denote.Ref.{now}
 use mathlib.Core.Path.{_≡_, sym, ap, _∙_}
-use mathlib.Core.Bool.{true}
 use Prim.Native.Nat.{_+_, _-_}
 use lib.ListN.{length, getD}
 use lib.Seq.{sets, length-sets}
@@ -11,13 +10,14 @@ use Rattle.wire.specs.Bytes.{Bytes}
 use Rattle.wire.proofs.Held.{slice-bytes, array-bytes}
 use Rattle.writing.specs.Write.{putAt}
 use Rattle.writing.proofs.Answers.{refused-so}
-use Rattle.writing.proofs.Loops.{Measured, Asked, Placed, measured-starts, measured-bad, measured-turn, measured-asks, asked-refused, asked-room, asked-starts, asked-ends, placed-room, placed-turn}
+use Rattle.writing.proofs.Passes.{Measured, Asked, Placed, measured-starts, measured-bad, measured-turn, measured-asks, asked-refused, asked-room, asked-starts, asked-ends, placed-room, placed-turn}
 use Rattle.tlv_table.specs.Tlvs.{entryWritable, oneTlv}
 use Rattle.tlv_table.specs.declared.TlvEntry.{TlvEntry}
+use Rattle.tlv_table.proofs.Written.{length-of}
 use Rattle.peer_up_notification.specs.Shown.{zeroTlv}
 use Rattle.peer_up_notification.proofs.Laws.{table-long}
 use Rattle.peer_up_notification_writer.specs.Write.{writer, tlvWritable, bytesOf, writable, endpointBytes, frontBytes, Typed}
-use Rattle.peer_up_notification_writer.proofs.Written.{translates, bodied, FineFront, front-of, too-many, front-bad, tlvs-decide, writes-of, bytes-are, length-opens, length-front, front-put}
+use Rattle.peer_up_notification_writer.proofs.Written.{ok-same, bodied, FineFront, front-of, too-many, front-bad, tlvs-decide, writes-of, bytes-are, length-opens, length-front, front-put}
 use Rattle.peer_up_notification_writer.proofs.write_peer_up_notification.Statement.{statement}
 use Rattle.peer_up_notification_writer.proofs.write_peer_up_notification.Tie as tie
 
@@ -55,8 +55,8 @@ long c = length-front (c .before .before .before .before .before .before .before
 
 judged-so : (c : tie.After-entry-writable Inv-loop μ-loop Inv-loop2 μ-loop2) → tlvWritable (length (now (c .before .before .before .before .before .before .before .before .before .before .before .before .before .before .before .args .buffer))) (getD (c .before .before .before .before .before .before .before .before .before .before .before .before .before .before .before .args .t1 .tlvs) (c .before .before .before .before .loop .i) zeroTlv) ≡ c .entry-writable .result
 judged-so c =
-    sym (translates .ok-same (length (now (c .before .before .before .before .before .before .before .before .before .before .before .before .before .before .before .args .buffer))) 0 (getD (c .before .before .before .before .before .before .before .before .before .before .before .before .before .before .before .args .t1 .tlvs) (c .before .before .before .before .loop .i) zeroTlv))
-    ∙ ap (entryWritable 0 true (length (now (c .before .before .before .before .before .before .before .before .before .before .before .before .before .before .before .args .buffer))) 0) (sym (c .before .entry-of .ensures)) ∙ sym (c .entry-writable .ensures)
+    sym (ok-same (length (now (c .before .before .before .before .before .before .before .before .before .before .before .before .before .before .before .args .buffer))) (getD (c .before .before .before .before .before .before .before .before .before .before .before .before .before .before .before .args .t1 .tlvs) (c .before .before .before .before .loop .i) zeroTlv))
+    ∙ ap (entryWritable (length (now (c .before .before .before .before .before .before .before .before .before .before .before .before .before .before .before .args .buffer)))) (sym (c .before .entry-of .ensures)) ∙ sym (c .entry-writable .ensures)
 
 asked : (c : tie.After-write-answer4 Inv-loop μ-loop Inv-loop2 μ-loop2)
     → Asked writer (c .before .before .before .before .before .before .before .before .before .before .before .before .before .args .t1 .tlvs) (c .before .before .before .before .before .before .before .before .before .before .before .before .before .args .t1 .count) (now (c .before .before .before .before .before .before .before .before .before .before .before .before .before .args .buffer)) (writable (c .before .before .before .before .before .before .before .before .before .before .before .before .before .args .t1) (now (c .before .before .before .before .before .before .before .before .before .before .before .before .before .args .buffer))) (frontBytes (c .before .before .before .before .before .before .before .before .before .before .before .before .before .args .t1) (now (c .before .before .before .before .before .before .before .before .before .before .before .before .before .args .buffer))) (bytesOf (c .before .before .before .before .before .before .before .before .before .before .before .before .before .args .t1) (now (c .before .before .before .before .before .before .before .before .before .before .before .before .before .args .buffer))) (now (c .before .before .before .before .before .before .before .before .before .before .before .before .before .args .out)) (c .before .before .loop .length) (c .write-answer4 .result)
@@ -133,7 +133,7 @@ loop-less c = search needs
 loop-again : tie.Need-loop-again Inv-loop μ-loop Inv-loop2 μ-loop2
 loop-again c =
     measured-turn (c .before .before .before .before .before .before .loop .inv) zeroTlv (c .before .before .before .before .before .loop-test .taken) (judged-so (c .before .before) ∙ not-false (c .before .before .entry-writable .result) (c .before .if3 .left))
-    (c .tlv-length .result) (c .tlv-length .ensures .0 ∙ ap (λ (e : TlvEntry). 4 + e .size) (c .before .before .before .entry-of .ensures)) (c .tlv-length .ensures .1)
+    (length-of (c .before .before .before .entry-of .ensures) (c .tlv-length .ensures .0)) (c .tlv-length .ensures .1)
 
 write-answer-requires-4 : tie.Need-write-answer-requires-4 Inv-loop μ-loop Inv-loop2 μ-loop2
 write-answer-requires-4 c κs = search needs
@@ -176,9 +176,7 @@ tlv-length-requires-2 : tie.Need-tlv-length-requires-2 Inv-loop μ-loop Inv-loop
 tlv-length-requires-2 c κs = search needs
 
 add-at : tie.Need-add-at Inv-loop μ-loop Inv-loop2 μ-loop2
-add-at c =
-    let n = c .tlv-length2 .ensures .0 ∙ ap (λ (e : TlvEntry). 4 + e .size) (c .before .before .before .before .before .entry-of2 .ensures) in
-    omega (arith, placed-room bodied (c .before .before .before .before .before .before .before .before .loop2 .inv) zeroTlv (c .before .before .before .before .before .before .before .loop2-test .taken) .0, c .before .before .before .before .before .before .before .before .loop2 .inv .long, as-long (c .before .before .before .before .before .before .before .before .before .before .before), c .before .before .before .before .before .before .before .before .before .before .before .before .before .before .before .before .before .before .before .before .before .before .before .before .before .before .before .before .before .before .before .before .good, n)
+add-at c = omega (arith, placed-room bodied (c .before .before .before .before .before .before .before .before .loop2 .inv) zeroTlv (c .before .before .before .before .before .before .before .loop2-test .taken) .0, c .before .before .before .before .before .before .before .before .loop2 .inv .long, as-long (c .before .before .before .before .before .before .before .before .before .before .before), c .before .before .before .before .before .before .before .before .before .before .before .before .before .before .before .before .before .before .before .before .before .before .before .before .before .before .before .before .before .before .before .before .good, length-of (c .before .before .before .before .before .entry-of2 .ensures) (c .tlv-length2 .ensures .0))
 
 add-k : tie.Need-add-k Inv-loop μ-loop Inv-loop2 μ-loop2
 add-k c = search needs
@@ -188,9 +186,9 @@ loop2-less c = search needs
 
 loop2-again : tie.Need-loop2-again Inv-loop μ-loop Inv-loop2 μ-loop2
 loop2-again c =
-    let n : c .tlv-length2 .result ≡ 4 + getD (c .before .before .before .before .before .before .before .before .before .before .before .before .before .before .before .before .before .before .before .before .before .before .before .before .before .before .before .before .before .before .before .before .args .t1 .tlvs) (c .before .before .before .before .before .before .before .before .loop2 .k) zeroTlv .«info_len» = c .tlv-length2 .ensures .0 ∙ ap (λ (e : TlvEntry). 4 + e .size) (c .before .before .before .before .before .entry-of2 .ensures) in
     placed-turn bodied (c .before .before .before .before .before .before .before .before .loop2 .inv) zeroTlv (c .before .before .before .before .before .before .before .loop2-test .taken)
-    (c .before .before .before .put-entry .ensures ∙ ap (λ (e : TlvEntry). putAt (c .before .before .before .before .before .before .before .before .loop2 .out) (c .before .before .before .before .before .before .before .before .loop2 .at) (oneTlv (now (c .before .before .before .before .before .before .before .before .before .before .before .before .before .before .before .before .before .before .before .before .before .before .before .before .before .before .before .before .before .before .before .before .args .buffer)) e)) (c .before .before .before .before .before .entry-of2 .ensures)) (omega (arith, n))
+    (c .before .before .before .put-entry .ensures ∙ ap (λ (e : TlvEntry). putAt (c .before .before .before .before .before .before .before .before .loop2 .out) (c .before .before .before .before .before .before .before .before .loop2 .at) (oneTlv (now (c .before .before .before .before .before .before .before .before .before .before .before .before .before .before .before .before .before .before .before .before .before .before .before .before .before .before .before .before .before .before .before .before .args .buffer)) e)) (c .before .before .before .before .before .entry-of2 .ensures))
+    (length-of (c .before .before .before .before .before .entry-of2 .ensures) (c .tlv-length2 .ensures .0))
 
 same-length : tie.Need-same-length Inv-loop μ-loop Inv-loop2 μ-loop2
 same-length c = c .before .loop2 .inv .long ∙ as-long (c .before .before .before .before)

@@ -10,7 +10,7 @@ use lib.Seq.{sets, length-sets}
 use Rattle.wire.specs.Bytes.{be}
 use Rattle.writing.proofs.Answers.{refused-so}
 use Rattle.writing.proofs.Sets.{put-fits}
-use Rattle.writing.proofs.Loops.{Measured, Asked, Placed, measured-starts, measured-bad, measured-turn, measured-asks, asked-refused, asked-room, asked-starts, asked-ends, placed-room, placed-turn}
+use Rattle.writing.proofs.Passes.{Measured, Asked, Placed, measured-starts, measured-bad, measured-turn, measured-asks, asked-refused, asked-room, asked-starts, asked-ends, placed-room, placed-turn}
 use Rattle.stats_report.specs.Grammar.{places}
 use Rattle.stats_report.specs.Shown.{zeroCounter}
 use Rattle.stats_report_writer.specs.Write.{writer, bytesOf, writable}
@@ -96,7 +96,9 @@ loop-less : tie.Need-loop-less Inv-loop μ-loop Inv-loop2 μ-loop2
 loop-less c = search needs
 
 loop-again : tie.Need-loop-again Inv-loop μ-loop Inv-loop2 μ-loop2
-loop-again c = measured-turn (c .before .before .before .before .before .loop .inv) zeroCounter (c .before .before .before .before .loop-test .taken) (sym (c .before .before .counter-writable .ensures) ∙ not-false (c .before .before .counter-writable .result) (c .before .if3 .left)) (c .counter-length .result) (c .counter-length .ensures .0) (c .counter-length .ensures .1)
+loop-again c =
+    measured-turn (c .before .before .before .before .before .loop .inv) zeroCounter (c .before .before .before .before .loop-test .taken) (sym (c .before .before .counter-writable .ensures) ∙ not-false (c .before .before .counter-writable .result) (c .before .if3 .left))
+    (c .counter-length .ensures .0) (c .counter-length .ensures .1)
 
 write-answer-requires-4 : tie.Need-write-answer-requires-4 Inv-loop μ-loop Inv-loop2 μ-loop2
 write-answer-requires-4 c κs = search needs
@@ -141,7 +143,7 @@ loop2-less : tie.Need-loop2-less Inv-loop μ-loop Inv-loop2 μ-loop2
 loop2-less c = search needs
 
 loop2-again : tie.Need-loop2-again Inv-loop μ-loop Inv-loop2 μ-loop2
-loop2-again c = placed-turn bodied (c .before .before .before .before .before .before .before .loop2 .inv) zeroCounter (c .before .before .before .before .before .before .loop2-test .taken) (c .before .before .before .put-counter .ensures) (omega (arith, c .counter-length2 .ensures .0))
+loop2-again c = placed-turn bodied (c .before .before .before .before .before .before .before .loop2 .inv) zeroCounter (c .before .before .before .before .before .before .loop2-test .taken) (c .before .before .before .put-counter .ensures) (c .counter-length2 .ensures .0)
 
 same-length : tie.Need-same-length Inv-loop μ-loop Inv-loop2 μ-loop2
 same-length c = c .before .loop2 .inv .long ∙ ap length (count-put (c .before .before .before .before)) ∙ length-sets (now (c .before .before .before .before .before .before .before .before .before .before .before .before .before .before .before .args .out)) 0 (be 4 (c .before .before .before .before .before .before .before .before .before .before .before .before .before .before .before .args .t1 .«stats_count»))

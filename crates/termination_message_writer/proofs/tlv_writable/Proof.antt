@@ -1,8 +1,7 @@
 use borrow.Author.Needs.{needs}
 use borrow.Author.Tests.{eq-eqb, ne-eqb, lt-ltb, le-ltb}
 use mathlib.Core.Path.{sym, ap, _∙_}
-use mathlib.Core.Bool.{false}
-use Rattle.tlv_table.specs.Tlvs.{entryWritable}
+use Rattle.tlv_table.specs.Tlvs.{entryWritableBefore}
 use Rattle.termination_message_writer.specs.Write.{tlvWritable}
 use Rattle.termination_message_writer.proofs.Written.{text-ok}
 use Rattle.termination_message_writer.proofs.tlv_writable.Statement.{statement}
@@ -11,13 +10,13 @@ use Rattle.termination_message_writer.proofs.tlv_writable.Tie as tie
 entry-of-requires : tie.Need-entry-of-requires
 entry-of-requires c κs = search needs
 
-entry-writable-requires : tie.Need-entry-writable-requires
-entry-writable-requires c κs = search needs
+entry-writable-before-requires : tie.Need-entry-writable-before-requires
+entry-writable-before-requires c κs = search needs
 
 returns : tie.Need-returns
 returns c =
-    c .entry-writable .ensures ∙ ap (entryWritable 0 false (c .before .before .before .args .room) (c .before .before .before .args .after)) (c .before .entry-of .ensures)
-    ∙ text-ok (c .before .before .before .args .room) (c .before .before .before .args .after) (c .before .before .before .args .tlv) (c .before .before .if1 .taken)
+    c .entry-writable-before .ensures ∙ ap (entryWritableBefore (c .before .before .before .args .buffer-length) (c .before .before .before .args .after)) (c .before .entry-of .ensures)
+    ∙ text-ok (c .before .before .before .args .buffer-length) (c .before .before .before .args .after) (c .before .before .before .args .tlv) (c .before .before .if1 .taken)
 
 returns-2 : tie.Need-returns-2
 unfolding tlvWritable
@@ -36,4 +35,4 @@ returns-4 c =
 pub tlv-writable-spec : {M : Type 1} → statement M
 tlv-writable-spec =
     tie.close
-    (tie.spec entry-of-requires entry-writable-requires returns returns-2 returns-3 returns-4)
+    (tie.spec entry-of-requires entry-writable-before-requires returns returns-2 returns-3 returns-4)
