@@ -34,13 +34,13 @@ use Rattle.peer_up_notification.proofs.Address.{address-shown}
 use Rattle.peer_up_notification.proofs.Opens.{OneMessage, open-back}
 
 -- ---- one TLV
-pub fine-of : (room : ℕ) (t : PeerUpNotificationTlv) → tlvWritable room t ≡ true → TlvFits (t .kind) (t .«info_len») (infoOf t) room
+pub fine-of : (bufferLength : ℕ) (t : PeerUpNotificationTlv) → tlvWritable bufferLength t ≡ true → TlvFits (t .kind) (t .«info_len») (infoOf t) bufferLength
 unfolding tlvWritable
-fine-of room t e = fits-of _ _ _ _ e
+fine-of bufferLength t e = fits-of _ _ _ _ e
 
-pub fine-from : (room : ℕ) (t : PeerUpNotificationTlv) → TlvFits (t .kind) (t .«info_len») (infoOf t) room → tlvWritable room t ≡ true
+pub fine-from : (bufferLength : ℕ) (t : PeerUpNotificationTlv) → TlvFits (t .kind) (t .«info_len») (infoOf t) bufferLength → tlvWritable bufferLength t ≡ true
 unfolding tlvWritable
-fine-from room t f = fits-from _ _ _ _ f
+fine-from bufferLength t f = fits-from _ _ _ _ f
 
 -- the entry of a TLV is judged as it is
 pub ok-same : (bufferLength : ℕ) (t : PeerUpNotificationTlv) → entryWritable bufferLength (entryOf t) ≡ tlvWritable bufferLength t

@@ -37,7 +37,7 @@ openWritable b v =
 
 -- ---- a TLV is writable, by the buffer's length, where it can be written from its view
 unfoldable pub tlvWritable : ℕ → PeerUpNotificationTlv → Bool
-tlvWritable room t = tlvFits (t .kind) (t .«info_len») (infoOf t) room
+tlvWritable bufferLength t = tlvFits (t .kind) (t .«info_len») (infoOf t) bufferLength
 
 abbrev pub writer : Writer
 writer =
@@ -46,7 +46,7 @@ writer =
       Item = Tlv;
       part = partOf;
       put = putTlv;
-      ok = λ room after t. tlvWritable room t;
+      ok = λ bufferLength after t. tlvWritable bufferLength t;
       size = λ t. 4 + t .«info_len»;
     }
 
@@ -68,7 +68,7 @@ abbrev pub bytesOf : PeerUpNotification → List ℕ → List ℕ
 bytesOf m b = join (readingOf m b)
 
 abbrev pub tlvsWritable : PeerUpNotification → ℕ → Bool
-tlvsWritable m room = pick (ltb places (m .count)) false (allOk writer room (kept m))
+tlvsWritable m bufferLength = pick (ltb places (m .count)) false (allOk writer bufferLength (kept m))
 
 abbrev pub writable : PeerUpNotification → List ℕ → Bool
 writable m b =

@@ -30,8 +30,8 @@ only-writable b kind size d p k z inside e same =
     fine-from b kind size d (record { kind-fits = k; size-fits = z; size-is = e; value-good = subst GoodValue same (v .is-good) }) inside
 
 -- ---- any two answers, and any two outputs, that the contract allows are equal
-pub writable-determined : (room kind size : ℕ) (d : StatsData) (r q : Bool) → r ≡ dataWritable room kind size d → q ≡ dataWritable room kind size d → r ≡ q
-writable-determined room kind size d r q = determined
+pub writable-determined : (bufferLength kind size : ℕ) (d : StatsData) (r q : Bool) → r ≡ dataWritable bufferLength kind size d → q ≡ dataWritable bufferLength kind size d → r ≡ q
+writable-determined bufferLength kind size d r q = determined
 
 pub put-determined : (out : List ℕ) (at : ℕ) (b : List ℕ) (d : StatsData) (o p : List ℕ) → o ≡ putAt out at (dataBytes b d) → p ≡ putAt out at (dataBytes b d) → o ≡ p
 put-determined out at b d o p = determined

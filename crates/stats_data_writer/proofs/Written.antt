@@ -24,15 +24,15 @@ use Rattle.stats_data.specs.declared.StatsData.the-variants.{Counter, Gauge, Af
 abbrev pub OtherForm : ℕ → Type 0
 OtherForm size = (size ≡ 4) ⊎ ((size ≡ 8) ⊎ (size ≡ 11))
 
-pub other-form : (room kind size : ℕ) (v : View) → OtherForm size → dataWritable room kind size (Unknown v) ≡ false
+pub other-form : (bufferLength kind size : ℕ) (v : View) → OtherForm size → dataWritable bufferLength kind size (Unknown v) ≡ false
 unfolding dataWritable
-other-form room kind size v (inl e) = rw e
-other-form room kind size v (inr (inl e)) = rw e
-other-form room kind size v (inr (inr e)) = rw e
+other-form bufferLength kind size v (inl e) = rw e
+other-form bufferLength kind size v (inr (inl e)) = rw e
+other-form bufferLength kind size v (inr (inr e)) = rw e
 
-pub no-other-form : (room kind size : ℕ) (v : View) → (OtherForm size → ⊥) → dataWritable room kind size (Unknown v) ≡ tlvFits kind size v room
+pub no-other-form : (bufferLength kind size : ℕ) (v : View) → (OtherForm size → ⊥) → dataWritable bufferLength kind size (Unknown v) ≡ tlvFits kind size v bufferLength
 unfolding dataWritable
-no-other-form room kind size v h = rw (ne-eqb size 4 (λ e. h (inl e)), ne-eqb size 8 (λ e. h (inr (inl e))), ne-eqb size 11 (λ e. h (inr (inr e))))
+no-other-form bufferLength kind size v h = rw (ne-eqb size 4 (λ e. h (inl e)), ne-eqb size 8 (λ e. h (inr (inl e))), ne-eqb size 11 (λ e. h (inr (inr e))))
 
 -- ---- what `dataWritable` asks of data whose view points into b: numbers that fit, and the length of its bytes
 pub record Fine (b : List ℕ) (kind size : ℕ) (d : StatsData) : Type 0 where

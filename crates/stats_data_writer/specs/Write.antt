@@ -17,11 +17,11 @@ dataBytes b d = valueBytes (valueIn b d)
 -- data is writable with a type and a length, by the buffer's length: its numbers fit, the length is that of its form, and a raw
 -- value has the length of no other form and can be written from its view
 unfoldable pub dataWritable : ℕ → ℕ → ℕ → StatsData → Bool
-dataWritable room kind size (Counter n) = pick (ltb kind (256 ^ 2)) (pick (ltb n (256 ^ 4)) (eqb size 4) false) false
-dataWritable room kind size (Gauge n) = pick (ltb kind (256 ^ 2)) (pick (ltb n (256 ^ 8)) (eqb size 8) false) false
-dataWritable room kind size (AfiSafiGauge afi safi n) =
+dataWritable bufferLength kind size (Counter n) = pick (ltb kind (256 ^ 2)) (pick (ltb n (256 ^ 4)) (eqb size 4) false) false
+dataWritable bufferLength kind size (Gauge n) = pick (ltb kind (256 ^ 2)) (pick (ltb n (256 ^ 8)) (eqb size 8) false) false
+dataWritable bufferLength kind size (AfiSafiGauge afi safi n) =
     pick (ltb kind (256 ^ 2))
     (pick (ltb afi (256 ^ 2)) (pick (ltb safi (256 ^ 1)) (pick (ltb n (256 ^ 8)) (eqb size 11) false) false) false)
     false
-dataWritable room kind size (Unknown v) =
-    pick (eqb size 4) false (pick (eqb size 8) false (pick (eqb size 11) false (tlvFits kind size v room)))
+dataWritable bufferLength kind size (Unknown v) =
+    pick (eqb size 4) false (pick (eqb size 8) false (pick (eqb size 11) false (tlvFits kind size v bufferLength)))

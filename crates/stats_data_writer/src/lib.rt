@@ -8,25 +8,25 @@ ghost use Rattle.stats_data.specs.Grammar.{valueBytes, afi-safi-gauge};
 ghost use Rattle.stats_data_writer.specs.Write.{dataBytes, dataWritable};
 ghost use Rattle.stats_data.specs.declared.StatsData.the-variants.{Unknown};
 
-// Whether a record can be written with this type, length and data, a view of a buffer of length room. The numbers of a type always
+// Whether a record can be written with this type, length and data, a view of a buffer of this length. The numbers of a type always
 // fit it: they are named so that the definition speaks of whole records.
-pub fn data_writable(kind: u16, size: u16, stat_data: StatsData, room: usize) -> bool
-    ensures { λ r. ⌜ r ≡ dataWritable room kind size «stat_data» ⌝ }
+pub fn data_writable(kind: u16, size: u16, stat_data: StatsData, buffer_length: usize) -> bool
+    ensures { λ r. ⌜ r ≡ dataWritable «buffer_length» kind size «stat_data» ⌝ }
 {
     match stat_data {
         StatsData::Counter(_n) => size == 4,
         StatsData::Gauge(_n) => size == 8,
         StatsData::AfiSafiGauge(_afi, _safi, _n) => size == 11,
-        StatsData::Unknown(view) => unknown_writable(kind, size, view, room),
+        StatsData::Unknown(view) => unknown_writable(kind, size, view, buffer_length),
     }
 }
 
-fn unknown_writable(kind: u16, size: u16, view: View, room: usize) -> bool
-    ensures { λ r. ⌜ r ≡ dataWritable room kind size (Unknown view) ⌝ }
+fn unknown_writable(kind: u16, size: u16, view: View, buffer_length: usize) -> bool
+    ensures { λ r. ⌜ r ≡ dataWritable «buffer_length» kind size (Unknown view) ⌝ }
 {
     match size {
         4 | 8 | 11 => false,
-        _ => writing::tlv_fits(kind, size, view, room),
+        _ => writing::tlv_fits(kind, size, view, buffer_length),
     }
 }
 

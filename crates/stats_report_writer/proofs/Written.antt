@@ -107,8 +107,8 @@ own-from b place t = go (formed t)
         rw (ne-eqb (t .«stat_len») 11 (λ e. h (inr (inr (inl e)))), ne-eqb (t .«stat_len») 4 (λ e. h (inl e)), eq-eqb (t .afi) 0 (o .afi-is), eq-eqb (t .safi) 0 (o .safi-is))
 
 -- ---- one entry
-pub is-plain : (room : ℕ) (t : StatCounter) → counterWritable room t ≡ true → plain t ≡ true
-is-plain room t e = both (plain t) _ e .0
+pub is-plain : (bufferLength : ℕ) (t : StatCounter) → counterWritable bufferLength t ≡ true → plain t ≡ true
+is-plain bufferLength t e = both (plain t) _ e .0
 
 pub fine : (b : List ℕ) (t : StatCounter) → counterWritable (length b) t ≡ true → Fine b (t .kind) (t .«stat_len») (dataIn t)
 fine b t e = fine-of b (t .kind) (t .«stat_len») (dataIn t) (both (plain t) _ e .1)
@@ -122,16 +122,16 @@ bodied =
     }
 
 -- ---- the whole report
-pub record Writes (m : StatsReport) (room : ℕ) : Type 0 where
+pub record Writes (m : StatsReport) (bufferLength : ℕ) : Type 0 where
   pub few : m .count ≤ places
   pub count-is : m .«stats_count» ≡ m .count
-  pub fine : allOk writer room (kept m) ≡ true
+  pub fine : allOk writer bufferLength (kept m) ≡ true
 
-pub writes-of : (m : StatsReport) (room : ℕ) → writable m room ≡ true → Writes m room
-writes-of m room e = go (ltb places (m .count)) refl (eqb (m .«stats_count») (m .count)) refl e
+pub writes-of : (m : StatsReport) (bufferLength : ℕ) → writable m bufferLength ≡ true → Writes m bufferLength
+writes-of m bufferLength e = go (ltb places (m .count)) refl (eqb (m .«stats_count») (m .count)) refl e
   where
     go : (x : Bool) → ltb places (m .count) ≡ x → (y : Bool) → eqb (m .«stats_count») (m .count) ≡ y
-        → pick x false (pick y (allOk writer room (kept m)) false) ≡ true → Writes m room
+        → pick x false (pick y (allOk writer bufferLength (kept m)) false) ≡ true → Writes m bufferLength
     go true hx y hy q = let z : _≡_ {A = ℕ} 0 1 = cc in absurd (omega arith)
     go false hx false hy q = let z : _≡_ {A = ℕ} 0 1 = cc in absurd (omega arith)
     go false hx true hy q = record { few = ltb-false places (m .count) hx; count-is = eqb-true (m .«stats_count») (m .count) hy; fine = q }

@@ -29,7 +29,7 @@ plain t =
 
 -- a counter is writable, by the buffer's length, where its numbers are plain and its data is writable with its type and length
 abbrev pub counterWritable : ℕ → StatCounter → Bool
-counterWritable room t = pick (plain t) (dataWritable room (t .kind) (t .«stat_len») (dataIn t)) false
+counterWritable bufferLength t = pick (plain t) (dataWritable bufferLength (t .kind) (t .«stat_len») (dataIn t)) false
 
 abbrev pub writer : Writer
 writer =
@@ -38,7 +38,7 @@ writer =
       Item = Stat;
       part = partOf;
       put = putStat;
-      ok = λ room after t. counterWritable room t;
+      ok = λ bufferLength after t. counterWritable bufferLength t;
       size = λ t. 4 + t .«stat_len»;
     }
 
@@ -58,7 +58,7 @@ bytesOf m b = join (readingOf m b)
 
 -- no more than the table holds, the count is theirs, and each is writable
 abbrev pub writable : StatsReport → ℕ → Bool
-writable m room = pick (ltb places (m .count)) false (pick (eqb (m .«stats_count») (m .count)) (allOk writer room (kept m)) false)
+writable m bufferLength = pick (ltb places (m .count)) false (pick (eqb (m .«stats_count») (m .count)) (allOk writer bufferLength (kept m)) false)
 
 -- ---- two records are the same: their numbers below the number of entries, and the bytes that their views show, each in its own buffer
 -- the lengths whose form has a number

@@ -47,14 +47,14 @@ pub fn write_stats_report(report: StatsReport, buffer: &[u8], out: &mut [u8]) ->
     answer
 }
 
-fn counter_writable(counter: StatCounter, room: usize) -> bool
-    ensures { λ r. ⌜ r ≡ counterWritable room counter ⌝ }
+fn counter_writable(counter: StatCounter, buffer_length: usize) -> bool
+    ensures { λ r. ⌜ r ≡ counterWritable «buffer_length» counter ⌝ }
 {
     if !is_plain(counter) {
         return false;
     }
     let stat_data = counter.stat_data();
-    stats_data_writer::data_writable(counter.kind, counter.stat_len, stat_data, room)
+    stats_data_writer::data_writable(counter.kind, counter.stat_len, stat_data, buffer_length)
 }
 
 // Whether the reader could show these numbers: a part that the form does not use is zero, a SAFI has one byte and a counter four.

@@ -43,7 +43,7 @@ returns-3 c =
     rw (c .before .stat-data3 .given .1, lt-ltb (c .before .before .before .args .kind) (256 ^ 2) (c .before .before .before .fits .kind .fits), lt-ltb _ (256 ^ 2) afi, lt-ltb _ (256 ^ 1) safi, lt-ltb _ (256 ^ 8) n)
 
 returns-4 : tie.Need-returns-4
-returns-4 c = c .unknown-writable .ensures ∙ ap (dataWritable (c .before .before .before .before .args .room) (c .before .before .before .before .args .kind) (c .before .before .before .before .args .size)) (sym (c .before .before .stat-data4 .given .1))
+returns-4 c = c .unknown-writable .ensures ∙ ap (dataWritable (c .before .before .before .before .args .buffer-length) (c .before .before .before .before .args .kind) (c .before .before .before .before .args .size)) (sym (c .before .before .stat-data4 .given .1))
 
 pub data-writable-spec : {M : Type 1} → statement M
 data-writable-spec =

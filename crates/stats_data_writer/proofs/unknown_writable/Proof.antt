@@ -8,10 +8,10 @@ tlv-fits-requires : tie.Need-tlv-fits-requires
 tlv-fits-requires c κs = search needs
 
 returns : tie.Need-returns
-returns c = sym (other-form (c .before .args .room) (c .before .args .kind) (c .before .args .size) (c .before .args .view) (c .match .keys1))
+returns c = sym (other-form (c .before .args .buffer-length) (c .before .args .kind) (c .before .args .size) (c .before .args .view) (c .match .keys1))
 
 returns-2 : tie.Need-returns-2
-returns-2 c = c .tlv-fits .ensures ∙ sym (no-other-form (c .before .before .args .room) (c .before .before .args .kind) (c .before .before .args .size) (c .before .before .args .view) (c .before .match .rest .1))
+returns-2 c = c .tlv-fits .ensures ∙ sym (no-other-form (c .before .before .args .buffer-length) (c .before .before .args .kind) (c .before .before .args .size) (c .before .before .args .view) (c .before .match .rest .1))
 
 pub unknown-writable-spec : {M : Type 1} → statement M
 unknown-writable-spec = tie.close (tie.spec tlv-fits-requires returns returns-2)

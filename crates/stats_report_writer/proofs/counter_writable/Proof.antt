@@ -24,7 +24,7 @@ data-writable-requires c κs = search needs
 returns-2 : tie.Need-returns-2
 returns-2 c =
     let yes : plain (c .before .before .before .before .args .counter) ≡ true = sym (c .before .before .before .is-plain .ensures) ∙ not-false (c .before .before .before .is-plain .result) (c .before .before .if1 .left) in
-    c .data-writable .ensures ∙ ap (dataWritable (c .before .before .before .before .args .room) (c .before .before .before .before .args .counter .kind) (c .before .before .before .before .args .counter .«stat_len»)) (c .before .stat-data .ensures) ∙ sym (rw yes)
+    c .data-writable .ensures ∙ ap (dataWritable (c .before .before .before .before .args .buffer-length) (c .before .before .before .before .args .counter .kind) (c .before .before .before .before .args .counter .«stat_len»)) (c .before .stat-data .ensures) ∙ sym (rw yes)
 
 pub counter-writable-spec : {M : Type 1} → statement M
 counter-writable-spec =
