@@ -61,7 +61,7 @@ judged-so c =
 asked : (c : tie.After-write-answer4 Inv-loop μ-loop Inv-loop2 μ-loop2)
     → Asked writer (c .before .before .before .before .before .before .before .before .before .before .before .before .before .args .t1 .tlvs) (c .before .before .before .before .before .before .before .before .before .before .before .before .before .args .t1 .count) (now (c .before .before .before .before .before .before .before .before .before .before .before .before .before .args .buffer)) (writable (c .before .before .before .before .before .before .before .before .before .before .before .before .before .args .t1) (now (c .before .before .before .before .before .before .before .before .before .before .before .before .before .args .buffer))) (frontBytes (c .before .before .before .before .before .before .before .before .before .before .before .before .before .args .t1) (now (c .before .before .before .before .before .before .before .before .before .before .before .before .before .args .buffer))) (bytesOf (c .before .before .before .before .before .before .before .before .before .before .before .before .before .args .t1) (now (c .before .before .before .before .before .before .before .before .before .before .before .before .before .args .buffer))) (now (c .before .before .before .before .before .before .before .before .before .before .before .before .before .args .out)) (c .before .before .loop .length) (c .write-answer4 .result)
 asked c =
-    measured-asks (c .before .before .loop .inv) (c .before .loop-test .left) (long (c .before .before .before .before .before))
+    measured-asks {front = frontBytes (c .before .before .before .before .before .before .before .before .before .before .before .before .before .args .t1) (now (c .before .before .before .before .before .before .before .before .before .before .before .before .before .args .buffer))} (c .before .before .loop .inv) (c .before .loop-test .left) (long (c .before .before .before .before .before))
     (λ o. bytes-are (c .before .before .before .before .before .before .before .before .before .before .before .before .before .args .t1) (now (c .before .before .before .before .before .before .before .before .before .before .before .before .before .args .buffer)) (buffer-bytes (c .before .before .before .before .before .before .before .before .before .before .before .before)) (writes-of (c .before .before .before .before .before .before .before .before .before .before .before .before .before .args .t1) (now (c .before .before .before .before .before .before .before .before .before .before .before .before .before .args .buffer)) o .front)) (c .write-answer4 .ensures)
 
 front-there : (c : tie.After-put-opens Inv-loop μ-loop Inv-loop2 μ-loop2) → c .put-opens .last .0 ≡ sets (now (c .before .before .before .before .before .before .before .before .before .before .before .before .before .before .before .before .before .before .before .before .before .args .out)) 0 (frontBytes (c .before .before .before .before .before .before .before .before .before .before .before .before .before .before .before .before .before .before .before .before .before .args .t1) (now (c .before .before .before .before .before .before .before .before .before .before .before .before .before .before .before .before .before .before .before .before .before .args .buffer)))
