@@ -33,6 +33,7 @@ pub fn write_peer_up_notification(
     if !front_writable(local_addr, sent_open, received_open, buffer) {
         return writing::write_answer(false, 0, out.len());
     }
+    // A writable OPEN has at most 65,535 bytes, so the sum does not wrap.
     let front = 20 + (sent_open.length + received_open.length);
     let mut length: usize = front;
     let mut i: usize = 0;
