@@ -2,7 +2,10 @@
 use models::Afi;
 use models::IpAddr;
 ghost use mathlib.Core.Path.{_≡_};
-ghost use Rattle.addresses.specs.Address.{lastFour, firstFour, shownIp, routerIp};
+ghost use Prim.Native.Nat.{_+_, _≤_};
+ghost use lib.ListN.{drop, replicate};
+ghost use lib.Seq.{paste};
+ghost use Rattle.addresses.specs.Address.{shownIp, routerIp};
 
 // The address that sixteen bytes of a BMP message show: an IPv4 address stands in the last four (RFC 7854, sections 4.2 and 4.10).
 pub fn shown_ip(afi: Afi, octets: [u8; 16]) -> IpAddr
@@ -10,7 +13,7 @@ pub fn shown_ip(afi: Afi, octets: [u8; 16]) -> IpAddr
 {
     match afi {
         Afi::Ipv4 => IpAddr {
-            octets: last_four(octets),
+            octets: four_at(octets, 12),
             afi: Afi::Ipv4,
         },
         Afi::Ipv6 => IpAddr {
@@ -26,7 +29,7 @@ pub fn router_ip(afi: Afi, octets: [u8; 16]) -> IpAddr
 {
     match afi {
         Afi::Ipv4 => IpAddr {
-            octets: first_four(octets),
+            octets: four_at(octets, 0),
             afi: Afi::Ipv4,
         },
         Afi::Ipv6 => IpAddr {
@@ -36,24 +39,17 @@ pub fn router_ip(afi: Afi, octets: [u8; 16]) -> IpAddr
     }
 }
 
-fn last_four(octets: [u8; 16]) -> [u8; 16]
-    ensures { λ r. ⌜ r ≡ lastFour octets ⌝ }
+// Four of the octets, where they stand, and zeros for the others. A loop, and not four stores: the compiler takes an array apart
+// that is used at fixed places, octet by octet.
+fn four_at(octets: [u8; 16], at: usize) -> [u8; 16]
+    requires { ⌜ at + 4 ≤ 16 ⌝ }
+    ensures { λ r. ⌜ r ≡ paste (replicate 16 0) at (drop at octets) 4 ⌝ }
 {
     let mut kept = [0; 16];
-    kept[12] = octets[12];
-    kept[13] = octets[13];
-    kept[14] = octets[14];
-    kept[15] = octets[15];
-    kept
-}
-
-fn first_four(octets: [u8; 16]) -> [u8; 16]
-    ensures { λ r. ⌜ r ≡ firstFour octets ⌝ }
-{
-    let mut kept = [0; 16];
-    kept[0] = octets[0];
-    kept[1] = octets[1];
-    kept[2] = octets[2];
-    kept[3] = octets[3];
+    let mut i = 0;
+    while i < 4 {
+        kept[at + i] = octets[at + i];
+        i += 1;
+    }
     kept
 }
