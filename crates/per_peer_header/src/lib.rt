@@ -1,5 +1,4 @@
 // Reading the 42 bytes of a per-peer header (RFC 7854, section 4.2).
-use models::Afi;
 use models::Asn;
 use models::AsnLength;
 use models::BgpIdentifier;
@@ -13,7 +12,7 @@ ghost use mathlib.Core.Path.{_≡_};
 ghost use mathlib.Core.Bool.{not, _&&_};
 ghost use Prim.Native.Nat.{_≤_, _+_};
 ghost use lib.Dec.{eqb};
-ghost use lib.ListN.{length};
+ghost use lib.ListN.{length, take, drop};
 ghost use Rattle.wire.specs.Bytes.{pick};
 ghost use Rattle.layout.specs.Layout.{cutIn};
 ghost use Rattle.peer_type.specs.Peer.{typeOf};
@@ -106,7 +105,7 @@ fn read_header(s: &[u8]) -> PerPeerHeaderAnswer
     PerPeerHeaderAnswer {
         refusal: wire::no_refusal(),
         stop: PER_PEER_HEADER,
-        warnings: warnings_of(kind, address, id, distinguisher),
+        warnings: warnings_of(s, kind, id, distinguisher),
         header: header,
     }
 }
@@ -143,23 +142,22 @@ fn shown_asn(kind: u8, flags: PerPeerFlags, number: u32) -> u32
     }
 }
 
-fn warnings_of(kind: u8, address: [u8; 16], id: u32, distinguisher: u64) -> u32
-    ensures { λ r. ⌜ r ≡ warningsOf kind address id distinguisher ⌝ }
+fn warnings_of(s: &[u8], kind: u8, id: u32, distinguisher: u64) -> u32
+    requires { ⌜ 42 ≤ length (now s) ⌝ }
+    ensures { λ r. ⌜ r ≡ warningsOf kind (take 16 (drop 10 (now (s .entry)))) id distinguisher ⌝ }
 {
     if kind != peer_type::LOCAL_RIB {
         return 0;
     }
-    word_of(is_zero_filled(address), lacks_router_id(id, distinguisher))
+    word_of(is_zero_filled(s), lacks_router_id(id, distinguisher))
 }
 
-fn is_zero_filled(octets: [u8; 16]) -> bool
-    ensures { λ r. ⌜ r ≡ zeroFilled octets ⌝ }
+// Whether the sixteen octets of the address are zero, as two numbers, so that no octet of it is looked at alone.
+fn is_zero_filled(s: &[u8]) -> bool
+    requires { ⌜ 42 ≤ length (now s) ⌝ }
+    ensures { λ r. ⌜ r ≡ zeroFilled (take 16 (drop 10 (now (s .entry)))) ⌝ }
 {
-    let address = IpAddr {
-        octets: octets,
-        afi: Afi::Ipv4,
-    };
-    address.equals(IpAddr::unspecified())
+    numbers::u64_at(s, 10) == 0 && numbers::u64_at(s, 18) == 0
 }
 
 fn lacks_router_id(id: u32, distinguisher: u64) -> bool

@@ -1,11 +1,11 @@
 use borrow.Author.Needs.{needs}
 use denote.Ref.{now}
-use mathlib.Core.Path.{sym, ap, _∙_}
+use mathlib.Core.Path.{_≡_, sym, ap, _∙_}
 use Prim.Native.Nat.{ℕ, _≤_}
 use mathlib.Core.List.{List}
 use lib.ListN.{length, take, drop}
 use lib.Dec.{lit≤}
-use Rattle.per_peer_header.specs.Read.{addressField, asField}
+use Rattle.per_peer_header.specs.Read.{addressField, asField, partsOf}
 use Rattle.per_peer_header.specs.Shown.{shownAddress, shownAsn}
 use Rattle.peer_type.specs.Peer.{typeOf}
 use Rattle.per_peer_header.specs.Warnings.{warningsOf, warnings}
@@ -14,6 +14,12 @@ use Rattle.wire.specs.Bytes.{numAt}
 use Rattle.times.specs.Time.{timeOf}
 use Rattle.per_peer_header.proofs.read_header.Statement.{statement}
 use Rattle.per_peer_header.proofs.read_header.Tie as tie
+
+warned-so : {word kind id distinguisher : ℕ} (s : List ℕ) → word ≡ warningsOf kind (take 16 (drop 10 s)) id distinguisher
+    → kind ≡ numAt 1 s 0 → id ≡ numAt 4 s 30 → distinguisher ≡ numAt 8 s 2 → word ≡ warnings (partsOf s)
+warned-so s told kind id distinguisher =
+    let field = sym (address-bytes (numAt 1 s 0) (numAt 1 s 1) (take 16 (drop 10 s))) in
+    told ∙ (λ i. warningsOf (kind i) (field i) (id i) (distinguisher i))
 
 u8-at-requires : tie.Need-u8-at-requires
 u8-at-requires c κs = search needs
@@ -70,10 +76,7 @@ returns c =
     let seconds = c .before .before .before .before .before .before .before .before .u32-at2 .ensures ∙ there s long 4 34 (lit≤ tt) in
     let microseconds = c .before .before .before .before .before .before .before .u32-at3 .ensures ∙ there s long 4 38 (lit≤ tt) in
     let none = c .before .no-refusal .ensures in
-    let warned =
-    c .warnings-of .ensures
-    ∙ (λ i. warningsOf (kind i) (octets i) (id i) (distinguisher i))
-    ∙ ap (λ (l : List ℕ). warningsOf (numAt 1 s 0) l (numAt 4 s 30) (numAt 8 s 2)) (sym (address-bytes (numAt 1 s 0) (numAt 1 s 1) (take 16 (drop 10 s)))) in
+    let warned = warned-so s (c .warnings-of .ensures) kind id distinguisher in
     let peer-type = c .before .before .before .before .before .before .type-of .ensures ∙ ap typeOf kind in
     let peer-ip = c .before .before .before .before .before .shown-address .ensures ∙ (λ i. shownAddress (addressField (kind i) (flags i) (octets i))) in
     let peer-asn = c .before .before .before .shown-asn .ensures ∙ (λ i. shownAsn (asField (kind i) (flags i) (asn i))) in
