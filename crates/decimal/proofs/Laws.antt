@@ -4,11 +4,11 @@ use mathlib.Core.Bool.{Bool, true, false}
 use mathlib.Core.List.{List, [], _∷_, _++_, map}
 use Prim.Native.Nat.{ℕ, zero, suc, _+_, _*_, _/_, _%_, _^_, _≤_, _<_}
 use native.Mathlib.Omega.{arith}
-use native.Mathlib.Nat.{pow-succ'}
+use native.Mathlib.Nat.{pow-succ', one-le-pow}
 use borrow.Author.Tests.{lt-ltb, le-ltb, ltb-true, ltb-false}
 use lib.Dec.{ltb}
 use lib.ListN.{length, set, length-append}
-use lib.Seq.{sets}
+use lib.Seq.{sets, set-comm}
 use Rattle.wire.specs.Bytes.{pick}
 use Rattle.writing.proofs.Sets.{sets-append}
 use Rattle.decimal.specs.Decimal.{digitsIn, digits, decimal, readOn, Digits, none, more, NoLeadingZero}
@@ -84,6 +84,15 @@ length-at-most (suc k) n h = go (ltb n 10) refl (length-at-most k (n / 10))
         let q = i (omega (arith, p)) in
         omega (arith, length-more n (ltb-false n 10 e), q)
 
+-- a number that reaches a power of ten has more digits than its exponent
+pub length-at-least : (k n : ℕ) → 10 ^ k ≤ n → k < length (decimal n)
+length-at-least zero n h = length-some n
+length-at-least (suc k) n h =
+    let p : 10 * 10 ^ k ≤ n = subst (λ (m : ℕ). m ≤ n) (pow-succ' 10 k) h in
+    let one : 0 < 10 ^ k = one-le-pow k 10 (omega arith) in
+    let q = length-at-least k (n / 10) (omega (arith, p)) in
+    omega (arith, length-more n (omega (arith, p, one)), q)
+
 -- ---- digits read
 pub read-snoc : (l : List ℕ) (d n : ℕ) → readOn n (l ++ (d ∷ [])) ≡ readOn n l * 10 + d
 read-snoc [] d n = refl
@@ -147,8 +156,24 @@ digits-read (snoc (x ∷ l) d v) p z =
 pub digits-of-read : (l : List ℕ) → Digits l → NoLeadingZero l → digits (readOn 0 l) ≡ l
 digits-of-read l = digits-read (from-end l)
 
--- ---- digits put one after the other
-pub put-last : (l p : List ℕ) (at k n : ℕ) → 10 ≤ n → p ≡ sets l at (decimal (n / 10)) → k ≡ at + length (decimal (n / 10))
-    → set p k (48 + n % 10) ≡ sets l at (decimal n)
-put-last l p at k n h e f =
-    rw (decimal-more n h, e, f) (sym (sets-append (decimal (n / 10)) ((48 + n % 10) ∷ []) l at))
+-- ---- digits put from the last backwards
+-- a byte behind a text can be put before it
+put-behind : (a l : List ℕ) (at k x : ℕ) → at + length a ≤ k → set (sets l at a) k x ≡ sets (set l k x) at a
+put-behind [] l at k x h = refl
+put-behind (y ∷ a) l at k x h =
+    put-behind a (set l at y) (suc at) k x (omega arith) ∙ ap (λ (o : List ℕ). sets o (suc at) a) (set-comm l at k y x (λ e. omega arith))
+
+-- once the last digit stands there, those of the quotient are left
+pub put-last : (l : List ℕ) (at k n : ℕ) → 10 ≤ n → k + 1 ≡ at + length (decimal n) → sets (set l k (48 + n % 10)) at (decimal (n / 10)) ≡ sets l at (decimal n)
+put-last l at k n h e =
+    let a = decimal (n / 10) in
+    let there : at + length a ≡ k = omega (arith, length-more n h, e) in
+    sym (put-behind a l at k (48 + n % 10) (omega (arith, there)))
+    ∙ ap (λ (i : ℕ). set (sets l at a) i (48 + n % 10)) (sym there)
+    ∙ sym (sets-append a ((48 + n % 10) ∷ []) l at)
+    ∙ ap (sets l at) (sym (decimal-more n h))
+
+pub put-first : (l : List ℕ) (at k n : ℕ) → n < 10 → k + 1 ≡ at + length (decimal n) → set l k (48 + n) ≡ sets l at (decimal n)
+put-first l at k n h e =
+    let there : k ≡ at = omega (arith, length-one n h, e) in
+    rw (decimal-one n h, there)

@@ -39,8 +39,8 @@ pub at-most : (k n : ℕ) → n < 10 ^ suc k → length (decimal n) ≤ suc k
 at-most = length-at-most
 
 -- ---- any two answers, and any two outputs, that a contract allows are equal
-pub digit-count-determined : (n r q : ℕ) → r ≡ length (decimal n) → q ≡ length (decimal n) → r ≡ q
-digit-count-determined n r q = determined
+pub put-decimal-count-determined : (n r q : ℕ) → r ≡ length (decimal n) → q ≡ length (decimal n) → r ≡ q
+put-decimal-count-determined n r q = determined
 
 pub put-decimal-determined : (out : List ℕ) (at n : ℕ) (out′ out″ : List ℕ) → out′ ≡ putAt out at (decimal n) → out″ ≡ putAt out at (decimal n) → out′ ≡ out″
 put-decimal-determined out at n out′ out″ = determined

@@ -1,15 +1,49 @@
 // Numbers in decimal, as text.
 ghost use mathlib.Core.Path.{_≡_};
-ghost use Prim.Native.Nat.{_+_, _≤_};
 ghost use lib.ListN.{length};
-ghost use lib.Seq.{sets};
 ghost use Rattle.writing.specs.Write.{putAt};
 ghost use Rattle.decimal.specs.Decimal.{decimal};
 
-// How many digits a number has.
-pub fn digit_count(n: usize) -> usize
+// Puts the digits of a number at a place of the output, the last first, and answers how many they are; where they do not fit, nothing
+// changes.
+pub fn put_decimal(out: &mut [u8], at: usize, n: usize) -> usize
+    ensures { λ r. ⌜ r ≡ length (decimal n) ⌝ }
+    ensures { λ _. ⌜ now (out .exit) ≡ putAt (now (out .entry)) at (decimal n) ⌝ }
+{
+    let count = digit_count(n);
+    if wire::left(out, at) < count {
+        return count;
+    }
+    let mut rest = n;
+    let mut last = at + count - 1;
+    while 10 <= rest {
+        out[last] = 48 + ((rest % 10) as u8);
+        rest = rest / 10;
+        last -= 1;
+    }
+    out[last] = 48 + (rest as u8);
+    count
+}
+
+// Most numbers of a listing have few digits, and comparing is cheaper than dividing.
+fn digit_count(n: usize) -> usize
     ensures { λ r. ⌜ r ≡ length (decimal n) ⌝ }
 {
+    if n < 10 {
+        return 1;
+    }
+    if n < 100 {
+        return 2;
+    }
+    if n < 1_000 {
+        return 3;
+    }
+    if n < 10_000 {
+        return 4;
+    }
+    if n < 100_000 {
+        return 5;
+    }
     let mut rest = n;
     let mut count: usize = 1;
     while 10 <= rest {
@@ -17,29 +51,4 @@ pub fn digit_count(n: usize) -> usize
         count += 1;
     }
     count
-}
-
-// Puts the digits of a number at a place of the output; where they do not fit, nothing changes.
-pub fn put_decimal(out: &mut [u8], at: usize, n: usize)
-    ensures { λ _. ⌜ now (out .exit) ≡ putAt (now (out .entry)) at (decimal n) ⌝ }
-{
-    if wire::left(out, at) < digit_count(n) {
-        return;
-    }
-    put_digits(out, at, n);
-}
-
-// Answers the place after the digits, where the next one goes.
-fn put_digits(out: &mut [u8], at: usize, n: usize) -> usize
-    requires { ⌜ at + length (decimal n) ≤ length (now out) ⌝ }
-    ensures { λ r. ⌜ r ≡ at + length (decimal n) ⌝ }
-    ensures { λ _. ⌜ now (out .exit) ≡ sets (now (out .entry)) at (decimal n) ⌝ }
-{
-    if n < 10 {
-        out[at] = 48 + (n as u8);
-        return at + 1;
-    }
-    let next = put_digits(out, at, n / 10);
-    out[next] = 48 + ((n % 10) as u8);
-    next + 1
 }

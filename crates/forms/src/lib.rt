@@ -187,11 +187,10 @@ fn put_decimal(out: &mut [u8], at: usize, n: u64) -> usize
     ensures { λ r. ⌜ r ≡ placeAfter (now (out .entry)) at (decimal n) ⌝ }
     ensures { λ _. ⌜ now (out .exit) ≡ putAt (now (out .entry)) at (decimal n) ⌝ }
 {
-    let number = n as usize;
-    let count = decimal::digit_count(number);
-    if wire::left(out, at) < count {
+    let room = wire::left(out, at);
+    let count = decimal::put_decimal(out, at, n as usize);
+    if room < count {
         return at;
     }
-    decimal::put_decimal(out, at, number);
     at + count
 }

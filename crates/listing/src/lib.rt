@@ -144,8 +144,7 @@ fn put_field(out: &mut [u8], at: usize, n: usize, after: u8) -> usize
     ensures { λ r. ⌜ r ≡ at + length (decimal n ++ (after ∷ [])) ⌝ }
     ensures { λ _. ⌜ Puts (now (out .entry)) at (decimal n ++ (after ∷ [])) (now (out .exit)) ⌝ }
 {
-    decimal::put_decimal(out, at, n);
-    let next = at + decimal::digit_count(n);
+    let next = at + decimal::put_decimal(out, at, n);
     put_numbers::put_u8(out, next, after);
     next + 1
 }

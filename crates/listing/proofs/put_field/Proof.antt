@@ -16,36 +16,32 @@ use Rattle.listing.proofs.put_field.Tie as tie
 put-decimal-requires : tie.Need-put-decimal-requires
 put-decimal-requires c κs = search needs
 
-digit-count-requires : tie.Need-digit-count-requires
-digit-count-requires c κs = search needs
-
 add-next : tie.Need-add-next
-add-next c = omega (arith, c .before .before .before .before .before .before .pre, c .digit-count .ensures, length-field (decimal (c .before .before .before .before .before .before .args .n)) (c .before .before .before .before .before .before .args .after))
+add-next c = omega (arith, c .before .before .before .before .before .pre, c .before .before .put-decimal .ensures .0, length-field (decimal (c .before .before .before .before .before .args .n)) (c .before .before .before .before .before .args .after))
 
 put-u8-requires : tie.Need-put-u8-requires
 put-u8-requires c κs = search needs
 
 add-result : tie.Need-add-result
-add-result c = omega (arith, c .before .before .before .before .before .before .before .before .before .before .pre, c .before .before .before .before .digit-count .ensures, length-field (decimal (c .before .before .before .before .before .before .before .before .before .before .args .n)) (c .before .before .before .before .before .before .before .before .before .before .args .after))
+add-result c = omega (arith, c .before .before .before .before .before .before .before .before .before .pre, c .before .before .before .before .before .before .put-decimal .ensures .0, length-field (decimal (c .before .before .before .before .before .before .before .before .before .args .n)) (c .before .before .before .before .before .before .before .before .before .args .after))
 
 same-length : tie.Need-same-length
 same-length c = search needs
 
 returns : tie.Need-returns
 returns c =
-    let next = c .before .before .before .before .before .before .before .before .before .before .args .at + c .before .before .before .before .digit-count .result in
-    let at-next : next ≡ c .before .before .before .before .before .before .before .before .before .before .args .at + length (decimal (c .before .before .before .before .before .before .before .before .before .before .args .n)) = ap (λ i. c .before .before .before .before .before .before .before .before .before .before .args .at + i) (c .before .before .before .before .digit-count .ensures) in
-    then (now (c .before .before .before .before .before .before .before .before .before .before .args .out)) (c .before .before .before .before .before .before .before .put-decimal .last .0) (c .before .before .put-u8 .last .0) (decimal (c .before .before .before .before .before .before .before .before .before .before .args .n)) (c .before .before .before .before .before .before .before .before .before .before .args .after ∷ []) (c .before .before .before .before .before .before .before .before .before .before .args .at) next (next + 1) (c .before .before .before .before .before .before .before .put-decimal .kept .0)
-    (put-ends (now (c .before .before .before .before .before .before .before .before .before .before .args .out)) (c .before .before .before .before .before .before .before .put-decimal .last .0) (decimal (c .before .before .before .before .before .before .before .before .before .before .args .n)) (c .before .before .before .before .before .before .before .before .before .before .args .at) next at-next (c .before .before .before .before .before .before .before .put-decimal .ensures))
-    (put-ends (c .before .before .before .before .before .before .before .put-decimal .last .0) (c .before .before .put-u8 .last .0) (c .before .before .before .before .before .before .before .before .before .before .args .after ∷ []) next (next + 1) (omega arith)
-    (c .before .before .put-u8 .ensures ∙ ap (putAt (c .before .before .before .before .before .before .before .put-decimal .last .0) next) (be-one (c .before .before .before .before .before .before .before .before .before .before .args .after) (c .before .before .before .before .before .before .before .before .before .before .fits .after .fits))))
+    let next = c .before .before .before .before .before .before .before .before .before .args .at + c .before .before .before .before .before .before .put-decimal .result in
+    let at-next : next ≡ c .before .before .before .before .before .before .before .before .before .args .at + length (decimal (c .before .before .before .before .before .before .before .before .before .args .n)) = ap (λ i. c .before .before .before .before .before .before .before .before .before .args .at + i) (c .before .before .before .before .before .before .put-decimal .ensures .0) in
+    then (now (c .before .before .before .before .before .before .before .before .before .args .out)) (c .before .before .before .before .before .before .put-decimal .last .0) (c .before .before .put-u8 .last .0) (decimal (c .before .before .before .before .before .before .before .before .before .args .n)) (c .before .before .before .before .before .before .before .before .before .args .after ∷ []) (c .before .before .before .before .before .before .before .before .before .args .at) next (next + 1) (c .before .before .before .before .before .before .put-decimal .kept .0)
+    (put-ends (now (c .before .before .before .before .before .before .before .before .before .args .out)) (c .before .before .before .before .before .before .put-decimal .last .0) (decimal (c .before .before .before .before .before .before .before .before .before .args .n)) (c .before .before .before .before .before .before .before .before .before .args .at) next at-next (c .before .before .before .before .before .before .put-decimal .ensures .1))
+    (put-ends (c .before .before .before .before .before .before .put-decimal .last .0) (c .before .before .put-u8 .last .0) (c .before .before .before .before .before .before .before .before .before .args .after ∷ []) next (next + 1) (omega arith)
+    (c .before .before .put-u8 .ensures ∙ ap (putAt (c .before .before .before .before .before .before .put-decimal .last .0) next) (be-one (c .before .before .before .before .before .before .before .before .before .args .after) (c .before .before .before .before .before .before .before .before .before .fits .after .fits))))
 
 pub put-field-spec : {M : Type 1} → statement M
 put-field-spec =
     tie.close
     (tie.spec
     put-decimal-requires
-    digit-count-requires
     add-next
     put-u8-requires
     add-result
