@@ -1,5 +1,6 @@
 // Writing the body of a BMP Peer Up notification (RFC 7854, section 4.10), behind the per-peer header.
 use models::IpAddr;
+use peer_up_notification::OPENS_AT;
 use peer_up_notification::PeerUpNotification;
 use peer_up_notification::PeerUpNotificationTlv;
 use tlv_table::TlvEntry;
@@ -27,14 +28,14 @@ pub fn write_peer_up_notification(
     let sent_open = message.sent_open;
     let received_open = message.received_open;
     let count = message.count;
-    if 32 < count {
+    if wire::TLV_PLACES < count {
         return writing::write_answer(false, 0, out.len());
     }
     if !front_writable(local_addr, sent_open, received_open, buffer) {
         return writing::write_answer(false, 0, out.len());
     }
     // A writable OPEN has at most 65,535 bytes, so the sum does not wrap.
-    let front = 20 + (sent_open.length + received_open.length);
+    let front = OPENS_AT + (sent_open.length + received_open.length);
     let mut length: usize = front;
     let mut i: usize = 0;
     while i < count {
@@ -92,7 +93,7 @@ fn open_writable(view: View, buffer: &[u8]) -> bool
     if !view.is_inside(buffer.len()) {
         return false;
     }
-    if view.length < 19 {
+    if view.length < wire::BGP_HEADER {
         return false;
     }
     let part = view.part(buffer);
@@ -127,6 +128,6 @@ fn put_opens(out: &mut [u8], sent_open: View, received_open: View, buffer: &[u8]
 {
     let sent = sent_open.part(buffer);
     let received = received_open.part(buffer);
-    writing::put_bytes(out, 20, sent);
-    writing::put_bytes(out, 20 + sent.len(), received);
+    writing::put_bytes(out, OPENS_AT, sent);
+    writing::put_bytes(out, OPENS_AT + sent.len(), received);
 }

@@ -66,7 +66,7 @@ fn has_header(entry: TlvEntry) -> bool
 {
     let value = entry.value;
     match value {
-        TlvValue::Part(_) => 19 <= entry.size,
+        TlvValue::Part(_) => wire::BGP_HEADER <= (entry.size as usize),
         TlvValue::Number(_) => true,
     }
 }

@@ -1,4 +1,5 @@
 // Writing the body of a BMP Statistics Report (RFC 7854, section 4.8).
+use stats_report::COUNTER_PLACES;
 use stats_report::StatCounter;
 use stats_report::StatsReport;
 use writing::WriteAnswer;
@@ -15,7 +16,7 @@ pub fn write_stats_report(report: StatsReport, buffer: &[u8], out: &mut [u8]) ->
     ensures { λ _. ⌜ now (out .exit) ≡ written (writable report (length (now (buffer .entry)))) (bytesOf report (now (buffer .entry))) (now (out .entry)) ⌝ }
 {
     let count = report.count;
-    if 64 < count {
+    if COUNTER_PLACES < count {
         return writing::write_answer(false, 0, out.len());
     }
     if (report.stats_count as usize) != count {

@@ -5,6 +5,9 @@ use Rattle.route_mirroring_writer.proofs.has_header.Tie as tie
 enum-told : tie.Need-enum-told
 enum-told c = search needs
 
+cast-result : tie.Need-cast-result
+cast-result c = search needs
+
 enum-told-2 : tie.Need-enum-told-2
 enum-told-2 c = search needs
 
@@ -15,4 +18,4 @@ returns-2 : tie.Need-returns-2
 returns-2 c = rw (c .enum-told2 .given .1)
 
 pub has-header-spec : {M : Type 1} → statement M
-has-header-spec = tie.close (tie.spec enum-told enum-told-2 returns returns-2)
+has-header-spec = tie.close (tie.spec enum-told cast-result enum-told-2 returns returns-2)
