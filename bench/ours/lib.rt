@@ -146,7 +146,7 @@ pub fn termination(s: &[u8]) -> u64 {
     let mut i: usize = 0;
     while i < count {
         let tlv = answer.message.tlvs[i];
-        h = with_tlv(h, tlv.kind, tlv.info_len, tlv.value);
+        h = with_tlv(h, tlv.kind, tlv.info_len, tlv.number);
         i += 1;
     }
     h
