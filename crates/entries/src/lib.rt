@@ -16,9 +16,6 @@ use termination_message::TerminationTlvValue;
 use wire::View;
 ghost use Prim.Native.Nat.{_<_};
 
-// Added to the number of a type that has no name.
-const UNKNOWN: u64 = 65_536;
-
 // Reads the record again: a value that could hold any of five tables would hold all of them. A table of more than 32 entries is one of
 // statistics.
 pub fn entry(kind: Kind, arguments: Arguments, s: &[u8], i: usize) -> Shown {
@@ -121,37 +118,19 @@ fn initiation_entry(s: &[u8], i: usize) -> Shown
 }
 
 fn initiation_tlv(i: u64, tlv: InitiationTlv) -> Shown {
-    let info_type = tlv.info_type();
+    let kind = tlv.kind as u64;
+    let size = tlv.info_len as u64;
     let info = tlv.info();
-    tlv_entry(i, initiation_type(info_type), tlv.info_len as u64, info)
+    let InitiationTlvType::Unknown(_) = tlv.info_type() else {
+        return tlv_entry(kinds::NAMED_TLV, i, kind, size, info);
+    };
+    tlv_entry(kinds::UNKNOWN_TLV, i, kind, size, info)
 }
 
-fn initiation_type(info_type: InitiationTlvType) -> u64 {
-    match info_type {
-        InitiationTlvType::String => 0,
-        InitiationTlvType::SysDescr => 1,
-        InitiationTlvType::SysName => 2,
-        InitiationTlvType::VrTableName => 3,
-        InitiationTlvType::AdminLabel => 4,
-        InitiationTlvType::Unknown(number) => UNKNOWN + (number as u64),
-    }
-}
-
-fn tlv_entry(i: u64, kind: u64, size: u64, view: View) -> Shown {
+fn tlv_entry(form: usize, i: u64, kind: u64, size: u64, view: View) -> Shown {
     let place = view.place as u64;
     let length = view.length as u64;
-    if kind < UNKNOWN {
-        return forms::of_five(kinds::NAMED_TLV, 0, i, kind, size, place, length);
-    }
-    forms::of_five(
-        kinds::UNKNOWN_TLV,
-        0,
-        i,
-        kind - UNKNOWN,
-        size,
-        place,
-        length,
-    )
+    forms::of_five(form, 0, i, kind, size, place, length)
 }
 
 fn termination_entry(s: &[u8], i: usize) -> Shown
@@ -210,18 +189,11 @@ fn peer_up_entry(arguments: Arguments, s: &[u8], i: usize) -> Shown
 }
 
 fn peer_up_tlv(i: u64, tlv: PeerUpNotificationTlv) -> Shown {
-    let info_type = tlv.info_type();
+    let kind = tlv.kind as u64;
+    let size = tlv.info_len as u64;
     let info = tlv.info_value();
-    tlv_entry(i, peer_up_type(info_type), tlv.info_len as u64, info)
-}
-
-fn peer_up_type(info_type: PeerUpTlvType) -> u64 {
-    match info_type {
-        PeerUpTlvType::String => 0,
-        PeerUpTlvType::SysDescr => 1,
-        PeerUpTlvType::SysName => 2,
-        PeerUpTlvType::VrTableName => 3,
-        PeerUpTlvType::AdminLabel => 4,
-        PeerUpTlvType::Unknown(number) => UNKNOWN + (number as u64),
-    }
+    let PeerUpTlvType::Unknown(_) = tlv.info_type() else {
+        return tlv_entry(kinds::NAMED_TLV, i, kind, size, info);
+    };
+    tlv_entry(kinds::UNKNOWN_TLV, i, kind, size, info)
 }

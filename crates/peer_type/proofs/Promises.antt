@@ -23,6 +23,9 @@ unfolding typeOf kindOf
 kind-told n h = number-of-name kindOf n LocalRib names refl (λ k. omega arith)
 
 -- ---- any two answers that the contracts allow are equal
+pub type-of-determined : (kind : ℕ) (r q : BmpPeerType) → r ≡ typeOf kind → q ≡ typeOf kind → r ≡ q
+type-of-determined kind r q = determined
+
 pub number-determined : (t : BmpPeerType) (r q : ℕ) → r ≡ kindOf t → q ≡ kindOf t → r ≡ q
 number-determined t r q = determined
 

@@ -2,7 +2,7 @@
 use models::Afi;
 use models::AsnLength;
 ghost use mathlib.Core.Path.{_≡_};
-ghost use Rattle.peer_type.specs.Peer.{kindOf, flagL, flagO, flagF, addressFamily, asnLength};
+ghost use Rattle.peer_type.specs.Peer.{typeOf, kindOf, flagL, flagO, flagF, addressFamily, asnLength};
 
 pub enum BmpPeerType {
     Global,
@@ -25,6 +25,18 @@ impl BmpPeerType {
             BmpPeerType::Local => 2,
             BmpPeerType::LocalRib => LOCAL_RIB,
         }
+    }
+}
+
+// The name of a type by its number; a number above the last is refused before it is named, and has the last name.
+pub fn type_of(kind: u8) -> BmpPeerType
+    ensures { λ r. ⌜ r ≡ typeOf kind ⌝ }
+{
+    match kind {
+        0 => BmpPeerType::Global,
+        1 => BmpPeerType::RD,
+        2 => BmpPeerType::Local,
+        _ => BmpPeerType::LocalRib,
     }
 }
 

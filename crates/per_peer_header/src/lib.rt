@@ -15,7 +15,6 @@ ghost use lib.Dec.{eqb};
 ghost use lib.ListN.{length, take, drop};
 ghost use Rattle.wire.specs.Bytes.{pick};
 ghost use Rattle.layout.specs.Layout.{cutIn};
-ghost use Rattle.peer_type.specs.Peer.{typeOf};
 ghost use Rattle.per_peer_header.specs.Grammar.{widths};
 ghost use Rattle.per_peer_header.specs.Warnings.{zeroFilled, warningsOf};
 ghost use Rattle.per_peer_header.specs.Shown.{shownAddress, shownAsn, shown, refused};
@@ -92,7 +91,7 @@ fn read_header(s: &[u8]) -> PerPeerHeaderAnswer
     let seconds = numbers::u32_at(s, 34);
     let microseconds = numbers::u32_at(s, 38);
     let header = BmpPerPeerHeader {
-        peer_type: type_of(kind),
+        peer_type: peer_type::type_of(kind),
         peer_flags: flags,
         peer_distinguisher: PeerDistinguisher(distinguisher),
         peer_ip: shown_address(kind, flags, address),
@@ -107,17 +106,6 @@ fn read_header(s: &[u8]) -> PerPeerHeaderAnswer
         stop: PER_PEER_HEADER,
         warnings: warnings_of(s, kind, id, distinguisher),
         header: header,
-    }
-}
-
-fn type_of(kind: u8) -> BmpPeerType
-    ensures { λ r. ⌜ r ≡ typeOf kind ⌝ }
-{
-    match kind {
-        0 => BmpPeerType::Global,
-        1 => BmpPeerType::RD,
-        2 => BmpPeerType::Local,
-        _ => BmpPeerType::LocalRib,
     }
 }
 

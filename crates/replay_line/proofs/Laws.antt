@@ -22,7 +22,8 @@ use Rattle.replay_line.specs.declared.FoundArguments.{FoundArguments}
 use Rattle.replay_line.specs.declared.Verb.{Verb}
 use Rattle.replay_line.specs.declared.Line.{Line}
 use Rattle.replay_line.specs.declared.Line.the-variants.{Bad}
-use Rattle.replay_line.specs.Line.{readers, readerOf, peers, peerArguments, asnAt, typeAt, found, verbOf, noArguments, readerArguments, argumentsOf, lineWith, behindVerb, lineOf}
+use Rattle.peer_type.specs.Peer.{typeOf}
+use Rattle.replay_line.specs.Line.{readers, readerOf, peers, peerArguments, asnAt, found, verbOf, noArguments, readerArguments, argumentsOf, lineWith, behindVerb, lineOf}
 use Rattle.kinds.proofs.Kind as K
 use denote.Enum.Declared.{tagOf}
 use types.Run.{OneOf, miss}
@@ -230,11 +231,11 @@ module _ (t : List ℕ) (i : ℕ) where
   no-reader e h =
       meaning-at readers FoundReader.Nothing t ∙ rw (sym e) (List·getD-eq-default (meant readers) FoundReader.Nothing {n = i} h)
 
-  pub peer-at : (afi : Afi) → i ≡ placeIn (peers afi) t → i < 8 → peerArguments afi t ≡ found afi (asnAt (i / 4)) (typeAt (i % 4))
-  unfolding peerArguments
+  pub peer-at : (afi : Afi) → i ≡ placeIn (peers afi) t → i < 8 → peerArguments afi t ≡ found afi (asnAt (i / 4)) (typeOf (i % 4))
+  unfolding peerArguments typeOf
   peer-at afi e h =
       meaning-at (peers afi) FoundArguments.Nothing t
-      ∙ rw (sym e) (agreed (λ n. getD (meant (peers afi)) n FoundArguments.Nothing) (λ n. found afi (asnAt (n / 4)) (typeAt (n % 4))) 8 i ((((((((tt, refl), refl), refl), refl), refl), refl), refl), refl) h)
+      ∙ rw (sym e) (agreed (λ n. getD (meant (peers afi)) n FoundArguments.Nothing) (λ n. found afi (asnAt (n / 4)) (typeOf (n % 4))) 8 i ((((((((tt, refl), refl), refl), refl), refl), refl), refl), refl) h)
 
   pub no-peer : (afi : Afi) → i ≡ placeIn (peers afi) t → 8 ≤ i → peerArguments afi t ≡ FoundArguments.Nothing
   unfolding peerArguments

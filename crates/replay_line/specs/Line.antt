@@ -74,9 +74,6 @@ peers afi =
 abbrev pub asnAt : ℕ → AsnLength
 asnAt n = armOf ((0, Bits16) ∷ []) n Bits32
 
-abbrev pub typeAt : ℕ → BmpPeerType
-typeAt n = armOf ((0, Global) ∷ (1, RD) ∷ (2, Local) ∷ []) n LocalRib
-
 unfoldable pub peerArguments : Afi → List ℕ → FoundArguments
 peerArguments afi t = meaning (peers afi) FoundArguments.Nothing t
 

@@ -10,7 +10,7 @@ ghost use Prim.Native.Nat.{_*_, _/_, _%_, _≤_};
 ghost use lib.ListN.{length};
 ghost use lib.Seq.{sets};
 ghost use Rattle.replay_line.specs.Words.{starts, same, spaceIn, wordOf, wordIn};
-ghost use Rattle.replay_line.specs.Line.{readerOf, reading, rewriting, verbOf, found, peerArguments, sessionArguments, noArguments, readerArguments, argumentsOf, lineWith, lineOf, asnAt, typeAt};
+ghost use Rattle.replay_line.specs.Line.{readerOf, reading, rewriting, verbOf, found, peerArguments, sessionArguments, noArguments, readerArguments, argumentsOf, lineWith, lineOf, asnAt};
 ghost use Rattle.replay_line.specs.Digits.{digitValue, bytesOf, pairsFit, pairsUnhexed, unhexed, unhexedInto};
 
 pub enum Verb {
@@ -233,7 +233,7 @@ fn peer_arguments(afi: Afi, text: &[u8]) -> FoundArguments
     if 8 <= i {
         return FoundArguments::Nothing;
     }
-    found(afi, asn_length(i / 4), peer_type(i % 4))
+    found(afi, asn_length(i / 4), peer_type::type_of((i % 4) as u8))
 }
 
 fn asn_length(i: usize) -> AsnLength
@@ -242,17 +242,6 @@ fn asn_length(i: usize) -> AsnLength
     match i {
         0 => AsnLength::Bits16,
         _ => AsnLength::Bits32,
-    }
-}
-
-fn peer_type(i: usize) -> BmpPeerType
-    ensures { λ r. ⌜ r ≡ typeAt i ⌝ }
-{
-    match i {
-        0 => BmpPeerType::Global,
-        1 => BmpPeerType::RD,
-        2 => BmpPeerType::Local,
-        _ => BmpPeerType::LocalRib,
     }
 }
 

@@ -16,15 +16,18 @@ returns c = sym (no-peer (now (c .before .before .before .before .before .args .
 asn-length-requires : tie.Need-asn-length-requires
 asn-length-requires c κs = search needs
 
-peer-type-requires : tie.Need-peer-type-requires
-peer-type-requires c κs = search needs
+cast-type-of : tie.Need-cast-type-of
+cast-type-of c = search needs
+
+type-of-requires : tie.Need-type-of-requires
+type-of-requires c κs = search needs
 
 found-requires : tie.Need-found-requires
 found-requires c κs = search needs
 
 returns-2 : tie.Need-returns-2
 unfolding wordIn spaceIn
-returns-2 c = c .found .ensures ∙ rw (c .before .before .asn-length .ensures, c .before .peer-type .ensures) (sym (peer-at (now (c .before .before .before .before .before .before .before .before .args .text)) (c .before .before .before .before .word-in .result) (c .before .before .before .before .before .before .before .before .args .afi) (c .before .before .before .before .word-in .ensures) (c .before .before .before .if1 .left)))
+returns-2 c = c .found .ensures ∙ rw (c .before .before .asn-length .ensures, c .before .type-of .ensures) (sym (peer-at (now (c .before .before .before .before .before .before .before .before .args .text)) (c .before .before .before .before .word-in .result) (c .before .before .before .before .before .before .before .before .args .afi) (c .before .before .before .before .word-in .ensures) (c .before .before .before .if1 .left)))
 
 pub peer-arguments-spec : {M : Type 1} → statement M
 peer-arguments-spec =
@@ -33,6 +36,7 @@ peer-arguments-spec =
     word-in-requires
     returns
     asn-length-requires
-    peer-type-requires
+    cast-type-of
+    type-of-requires
     found-requires
     returns-2)

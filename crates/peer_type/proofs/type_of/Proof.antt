@@ -1,10 +1,10 @@
 use native.Mathlib.Omega.{arith}
 use mathlib.Core.Path.{sym}
 use lib.ListN.{List·getD-eq-default}
 use Rattle.peer_type.specs.Peer.{names, typeOf}
-use Rattle.per_peer_header.proofs.type_of.Statement.{statement}
-use Rattle.per_peer_header.proofs.type_of.Tie as tie
+use Rattle.peer_type.proofs.type_of.Statement.{statement}
+use Rattle.peer_type.proofs.type_of.Tie as tie
 use Rattle.peer_type.specs.declared.BmpPeerType.the-variants.{LocalRib}
 
 returns : tie.Need-returns
 unfolding typeOf
