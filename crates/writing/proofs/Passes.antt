@@ -88,13 +88,18 @@ module _ {W : Writer} {table : List (W .Entry)} {n : ℕ} {b : List ℕ} {ok : B
     pub asked-refused : {r : Refusal} → a ≡ Refused r → (a ≡ writeAnswer ok (length s) (length out)) × (out ≡ written ok s out)
     asked-refused {r} e = (Answers.answered ok s out m (λ o. long) a (q .asked), Answers.left-alone ok s out m (λ o. long) a (q .asked) r e)
 
+    -- the output keeps its length
+    pub asked-long : {out₁ out′ : List ℕ} {at₁ at k : ℕ} → out₁ ≡ sets out 0 front → Placed W table n b out₁ at₁ out′ at k → length out′ ≡ length out
+    asked-long p x = x .long ∙ ap length p ∙ length-sets out 0 front
+
     module _ {j : ℕ} (e : a ≡ Written j) where
       pub asked-room : length front + sizes W (take n table) ≤ length out
       asked-room = omega (arith, Answers.wrote ok s out m (λ o. long) a (q .asked) j e .fits, long, q .added)
 
-      pub asked-starts : {out₁ : List ℕ} {at : ℕ} → length out₁ ≡ length out → at ≡ length front → Placed W table n b out₁ at out₁ at 0
+      pub asked-starts : {out₁ : List ℕ} {at : ℕ} → out₁ ≡ sets out 0 front → at ≡ length front → Placed W table n b out₁ at out₁ at 0
       asked-starts p h =
-          record { few = q .few; below = omega arith; fine = q .fine; room = omega (arith, asked-room, p, h); long = refl; so-far = refl }
+          let same = ap length p ∙ length-sets out 0 front in
+          record { few = q .few; below = omega arith; fine = q .fine; room = omega (arith, asked-room, same, h); long = refl; so-far = refl }
 
       pub asked-ends : {out₁ out′ : List ℕ} {at₁ at k : ℕ} → out₁ ≡ sets out 0 front → at₁ ≡ length front → Placed W table n b out₁ at₁ out′ at k → n ≤ k
           → (a ≡ writeAnswer ok (length s) (length out)) × (out′ ≡ written ok s out)

@@ -10,7 +10,7 @@ use Rattle.wire.specs.Bytes.{Bytes}
 use Rattle.wire.proofs.Held.{slice-bytes, array-bytes}
 use Rattle.writing.specs.Write.{putAt}
 use Rattle.writing.proofs.Answers.{refused-so}
-use Rattle.writing.proofs.Passes.{Measured, Asked, Placed, measured-starts, measured-bad, measured-turn, measured-asks, asked-refused, asked-room, asked-starts, asked-ends, placed-room, placed-turn}
+use Rattle.writing.proofs.Passes.{Measured, Asked, Placed, measured-starts, measured-bad, measured-turn, measured-asks, asked-refused, asked-long, asked-room, asked-starts, asked-ends, placed-room, placed-turn}
 use Rattle.tlv_table.specs.Tlvs.{entryWritable, oneTlv}
 use Rattle.tlv_table.specs.declared.TlvEntry.{TlvEntry}
 use Rattle.tlv_table.proofs.Written.{length-of}
@@ -66,9 +66,6 @@ asked c =
 
 front-there : (c : tie.After-put-opens Inv-loop μ-loop Inv-loop2 μ-loop2) → c .put-opens .last .0 ≡ sets (now (c .before .before .before .before .before .before .before .before .before .before .before .before .before .before .before .before .before .before .before .before .before .args .out)) 0 (frontBytes (c .before .before .before .before .before .before .before .before .before .before .before .before .before .before .before .before .before .before .before .before .before .args .t1) (now (c .before .before .before .before .before .before .before .before .before .before .before .before .before .before .before .before .before .before .before .before .before .args .buffer)))
 front-there c = front-put (c .before .before .before .before .before .before .before .before .before .before .before .before .before .before .before .before .before .before .before .before .before .args .t1) (now (c .before .before .before .before .before .before .before .before .before .before .before .before .before .before .before .before .before .before .before .before .before .args .buffer)) (now (c .before .before .before .before .before .before .before .before .before .before .before .before .before .before .before .before .before .before .before .before .before .args .out)) _ _ (typed (c .before .before .before .before .before .before .before .before .before .before .before .before .before .before .before .before .before .before .before .before .before) .octets .many) (c .before .before .before .before .put-endpoints .ensures) (c .put-opens .ensures)
-
-as-long : (c : tie.After-put-opens Inv-loop μ-loop Inv-loop2 μ-loop2) → length (c .put-opens .last .0) ≡ length (now (c .before .before .before .before .before .before .before .before .before .before .before .before .before .before .before .before .before .before .before .before .before .args .out))
-as-long c = ap length (front-there c) ∙ length-sets (now (c .before .before .before .before .before .before .before .before .before .before .before .before .before .before .before .before .before .before .before .before .before .args .out)) 0 (frontBytes (c .before .before .before .before .before .before .before .before .before .before .before .before .before .before .before .before .before .before .before .before .before .args .t1) (now (c .before .before .before .before .before .before .before .before .before .before .before .before .before .before .before .before .before .before .before .before .before .args .buffer)))
 
 write-answer-requires : tie.Need-write-answer-requires Inv-loop μ-loop Inv-loop2 μ-loop2
 write-answer-requires c κs = search needs
@@ -158,7 +155,7 @@ put-opens-requires c κs =
     omega (arith, asked-room bodied (asked (c .before .before .before .before .before .before .before)) (c .before .before .before .before .before .enum-told .given .1), long (c .before .before .before .before .before .before .before .before .before .before .before .before), n, same)
 
 loop2-holds : tie.Need-loop2-holds Inv-loop μ-loop Inv-loop2 μ-loop2
-loop2-holds c = asked-starts bodied (asked (c .before .before .before .before .before .before .before .before .before .before)) (c .before .before .before .before .before .before .before .before .enum-told .given .1) (as-long (c .before .before)) (sym (long (c .before .before .before .before .before .before .before .before .before .before .before .before .before .before .before)))
+loop2-holds c = asked-starts bodied (asked (c .before .before .before .before .before .before .before .before .before .before)) (c .before .before .before .before .before .before .before .before .enum-told .given .1) (front-there (c .before .before)) (sym (long (c .before .before .before .before .before .before .before .before .before .before .before .before .before .before .before)))
 
 mul-tlv-2 : tie.Need-mul-tlv-2 Inv-loop μ-loop Inv-loop2 μ-loop2
 mul-tlv-2 c = search needs
@@ -176,7 +173,7 @@ tlv-length-requires-2 : tie.Need-tlv-length-requires-2 Inv-loop μ-loop Inv-loop
 tlv-length-requires-2 c κs = search needs
 
 add-at : tie.Need-add-at Inv-loop μ-loop Inv-loop2 μ-loop2
-add-at c = omega (arith, placed-room bodied (c .before .before .before .before .before .before .before .before .loop2 .inv) zeroTlv (c .before .before .before .before .before .before .before .loop2-test .taken) .0, c .before .before .before .before .before .before .before .before .loop2 .inv .long, as-long (c .before .before .before .before .before .before .before .before .before .before .before), c .before .before .before .before .before .before .before .before .before .before .before .before .before .before .before .before .before .before .before .before .before .before .before .before .before .before .before .before .before .before .before .before .good, length-of (c .before .before .before .before .before .entry-of2 .ensures) (c .tlv-length2 .ensures .0))
+add-at c = omega (arith, placed-room bodied (c .before .before .before .before .before .before .before .before .loop2 .inv) zeroTlv (c .before .before .before .before .before .before .before .loop2-test .taken) .0, asked-long bodied (asked (c .before .before .before .before .before .before .before .before .before .before .before .before .before .before .before .before .before .before .before)) (front-there (c .before .before .before .before .before .before .before .before .before .before .before)) (c .before .before .before .before .before .before .before .before .loop2 .inv), c .before .before .before .before .before .before .before .before .before .before .before .before .before .before .before .before .before .before .before .before .before .before .before .before .before .before .before .before .before .before .before .before .good, length-of (c .before .before .before .before .before .entry-of2 .ensures) (c .tlv-length2 .ensures .0))
 
 add-k : tie.Need-add-k Inv-loop μ-loop Inv-loop2 μ-loop2
 add-k c = search needs
@@ -191,7 +188,7 @@ loop2-again c =
     (length-of (c .before .before .before .before .before .entry-of2 .ensures) (c .tlv-length2 .ensures .0))
 
 same-length : tie.Need-same-length Inv-loop μ-loop Inv-loop2 μ-loop2
-same-length c = c .before .loop2 .inv .long ∙ as-long (c .before .before .before .before)
+same-length c = asked-long bodied (asked (c .before .before .before .before .before .before .before .before .before .before .before .before)) (front-there (c .before .before .before .before)) (c .before .loop2 .inv)
 
 returns-5 : tie.Need-returns-5 Inv-loop μ-loop Inv-loop2 μ-loop2
 returns-5 c = asked-ends bodied (asked (c .before .before .before .before .before .before .before .before .before .before .before .before)) (c .before .before .before .before .before .before .before .before .before .before .enum-told .given .1) (front-there (c .before .before .before .before)) (sym (long (c .before .before .before .before .before .before .before .before .before .before .before .before .before .before .before .before .before))) (c .before .loop2 .inv) (c .loop2-test .left)

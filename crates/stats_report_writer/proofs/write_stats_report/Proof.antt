@@ -2,15 +2,15 @@ use borrow.Author.Needs.{needs}
 use borrow.Author.Tests.{not-true, not-false, lt-ltb, le-ltb, eq-eqb, ne-eqb}
 use native.Mathlib.Omega.{arith}
 use denote.Ref.{now}
-use mathlib.Core.Path.{_≡_, refl, sym, ap, _∙_}
+use mathlib.Core.Path.{_≡_, refl, sym, _∙_}
 use mathlib.Core.Bool.{false}
 use Prim.Native.Nat.{_-_}
 use lib.ListN.{length}
-use lib.Seq.{sets, length-sets}
+use lib.Seq.{sets}
 use Rattle.wire.specs.Bytes.{be}
 use Rattle.writing.proofs.Answers.{refused-so}
 use Rattle.writing.proofs.Sets.{put-fits}
-use Rattle.writing.proofs.Passes.{Measured, Asked, Placed, measured-starts, measured-bad, measured-turn, measured-asks, asked-refused, asked-room, asked-starts, asked-ends, placed-room, placed-turn}
+use Rattle.writing.proofs.Passes.{Measured, Asked, Placed, measured-starts, measured-bad, measured-turn, measured-asks, asked-refused, asked-long, asked-room, asked-starts, asked-ends, placed-room, placed-turn}
 use Rattle.stats_report.specs.Grammar.{places}
 use Rattle.stats_report.specs.Shown.{zeroCounter}
 use Rattle.stats_report_writer.specs.Write.{writer, bytesOf, writable}
@@ -117,7 +117,7 @@ put-u32-requires c κs = search needs
 
 loop2-holds : tie.Need-loop2-holds Inv-loop μ-loop Inv-loop2 μ-loop2
 unfolding be
-loop2-holds c = asked-starts bodied (asked (c .before .before .before .before .before .before)) (c .before .before .before .before .enum-told .given .1) (ap length (count-put (c .before .before)) ∙ length-sets (now (c .before .before .before .before .before .before .before .before .before .before .before .before .before .args .out)) 0 (be 4 (c .before .before .before .before .before .before .before .before .before .before .before .before .before .args .t1 .«stats_count»))) refl
+loop2-holds c = asked-starts bodied (asked (c .before .before .before .before .before .before)) (c .before .before .before .before .enum-told .given .1) (count-put (c .before .before)) refl
 
 mul-counter-2 : tie.Need-mul-counter-2 Inv-loop μ-loop Inv-loop2 μ-loop2
 mul-counter-2 c = search needs
@@ -146,7 +146,7 @@ loop2-again : tie.Need-loop2-again Inv-loop μ-loop Inv-loop2 μ-loop2
 loop2-again c = placed-turn bodied (c .before .before .before .before .before .before .before .loop2 .inv) zeroCounter (c .before .before .before .before .before .before .loop2-test .taken) (c .before .before .before .put-counter .ensures) (c .counter-length2 .ensures .0)
 
 same-length : tie.Need-same-length Inv-loop μ-loop Inv-loop2 μ-loop2
-same-length c = c .before .loop2 .inv .long ∙ ap length (count-put (c .before .before .before .before)) ∙ length-sets (now (c .before .before .before .before .before .before .before .before .before .before .before .before .before .before .before .args .out)) 0 (be 4 (c .before .before .before .before .before .before .before .before .before .before .before .before .before .before .before .args .t1 .«stats_count»))
+same-length c = asked-long bodied (asked (c .before .before .before .before .before .before .before .before)) (count-put (c .before .before .before .before)) (c .before .loop2 .inv)
 
 returns-5 : tie.Need-returns-5 Inv-loop μ-loop Inv-loop2 μ-loop2
 unfolding be
