@@ -7,13 +7,12 @@ ghost use mathlib.Core.Path.{_≡_};
 ghost use Prim.Native.Nat.{_≤_};
 ghost use lib.ListN.{length};
 ghost use lib.Seq.{sets};
-ghost use Rattle.writing.specs.Write.{writeAnswer, written};
+ghost use Rattle.writing.specs.Write.{Wrote};
 ghost use Rattle.common_header_writer.specs.Write.{writable, bytesOf};
 
 // Writes the header to the front of the output.
 pub fn write_bmp_common_header(header: BmpCommonHeader, out: &mut [u8]) -> WriteAnswer
-    ensures { λ r. ⌜ r ≡ writeAnswer (writable header) (length (bytesOf header)) (length (now (out .entry))) ⌝ }
-    ensures { λ _. ⌜ now (out .exit) ≡ written (writable header) (bytesOf header) (now (out .entry)) ⌝ }
+    ensures { λ r. ⌜ Wrote (writable header) (bytesOf header) (now (out .entry)) r (now (out .exit)) ⌝ }
 {
     let answer = writing::write_answer(is_writable(header), COMMON_HEADER, out.len());
     let WriteAnswer::Written(_) = answer else {

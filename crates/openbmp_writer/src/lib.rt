@@ -7,15 +7,14 @@ use writing::WriteAnswer;
 ghost use mathlib.Core.Path.{_≡_};
 ghost use Prim.Native.Nat.{_≤_, _<_, _+_};
 ghost use lib.ListN.{length};
-ghost use Rattle.writing.specs.Write.{putAt, writeAnswer, written};
+ghost use Rattle.writing.specs.Write.{putAt, Wrote};
 ghost use Rattle.openbmp.specs.Grammar.{flagsOf};
 ghost use Rattle.openbmp_writer.specs.Write.{familyBit, fixedFits, ipFits, viewFits, writable, bytesOf, frontBytes, timeBytes, counted, restBytes};
 
 // A writable header is never too long: each of its two texts has at most 65,535 bytes. Its octets that are skipped on reading are zero,
 // so all sixteen are put as they are.
 pub fn write_openbmp_header(header: OpenBmpHeader, buffer: &[u8], out: &mut [u8]) -> WriteAnswer
-    ensures { λ r. ⌜ r ≡ writeAnswer (writable header (length (now (buffer .entry)))) (length (bytesOf header (now (buffer .entry)))) (length (now (out .entry))) ⌝ }
-    ensures { λ _. ⌜ now (out .exit) ≡ written (writable header (length (now (buffer .entry)))) (bytesOf header (now (buffer .entry))) (now (out .entry)) ⌝ }
+    ensures { λ r. ⌜ Wrote (writable header (length (now (buffer .entry)))) (bytesOf header (now (buffer .entry))) (now (out .entry)) r (now (out .exit)) ⌝ }
 {
     if !is_writable(header, buffer.len()) {
         return writing::write_answer(false, 0, out.len());

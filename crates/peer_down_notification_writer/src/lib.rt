@@ -6,7 +6,7 @@ use wire::View;
 use writing::WriteAnswer;
 ghost use mathlib.Core.Path.{_≡_};
 ghost use lib.ListN.{length};
-ghost use Rattle.writing.specs.Write.{writeAnswer, written};
+ghost use Rattle.writing.specs.Write.{Wrote};
 ghost use Rattle.peer_down_notification.specs.Shown.{kindOf, isPresent, viewOf};
 ghost use Rattle.peer_down_notification_writer.specs.Write.{partsWritable, writable, bytesOf};
 
@@ -16,8 +16,7 @@ pub fn write_peer_down_notification(
     buffer: &[u8],
     out: &mut [u8],
 ) -> WriteAnswer
-    ensures { λ r. ⌜ r ≡ writeAnswer (writable notification (length (now (buffer .entry)))) (length (bytesOf notification (now (buffer .entry)))) (length (now (out .entry))) ⌝ }
-    ensures { λ _. ⌜ now (out .exit) ≡ written (writable notification (length (now (buffer .entry)))) (bytesOf notification (now (buffer .entry))) (now (out .entry)) ⌝ }
+    ensures { λ r. ⌜ Wrote (writable notification (length (now (buffer .entry)))) (bytesOf notification (now (buffer .entry))) (now (out .entry)) r (now (out .exit)) ⌝ }
 {
     let reason = notification.reason;
     let data = notification.data;

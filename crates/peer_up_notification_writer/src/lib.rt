@@ -11,7 +11,7 @@ ghost use mathlib.Core.Path.{_≡_};
 ghost use Prim.Native.Nat.{_+_, _≤_};
 ghost use lib.ListN.{length};
 ghost use lib.Seq.{sets};
-ghost use Rattle.writing.specs.Write.{writeAnswer, written};
+ghost use Rattle.writing.specs.Write.{Wrote};
 ghost use Rattle.peer_up_notification_writer.specs.Write.{addressWritable, openWritable, bytesOf, frontWritable, writable, endpointBytes, openBytes, entryOf};
 
 // Writes the message, whose views point into the buffer, to the front of the output. The table is judged and measured in one pass
@@ -21,8 +21,7 @@ pub fn write_peer_up_notification(
     buffer: &[u8],
     out: &mut [u8],
 ) -> WriteAnswer
-    ensures { λ r. ⌜ r ≡ writeAnswer (writable message (now (buffer .entry))) (length (bytesOf message (now (buffer .entry)))) (length (now (out .entry))) ⌝ }
-    ensures { λ _. ⌜ now (out .exit) ≡ written (writable message (now (buffer .entry))) (bytesOf message (now (buffer .entry))) (now (out .entry)) ⌝ }
+    ensures { λ r. ⌜ Wrote (writable message (now (buffer .entry))) (bytesOf message (now (buffer .entry))) (now (out .entry)) r (now (out .exit)) ⌝ }
 {
     let local_addr = message.local_addr;
     let sent_open = message.sent_open;

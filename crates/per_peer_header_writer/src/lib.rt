@@ -12,15 +12,14 @@ ghost use lib.Dec.{eqb};
 ghost use lib.ListN.{length};
 ghost use lib.Seq.{sets};
 ghost use Rattle.models.specs.Address.{sameAddress};
-ghost use Rattle.writing.specs.Write.{writeAnswer, written};
+ghost use Rattle.writing.specs.Write.{Wrote};
 ghost use Rattle.per_peer_header.specs.Shown.{shownAddress, shownAsn};
 ghost use Rattle.per_peer_header.specs.Read.{addressField, asField};
 ghost use Rattle.per_peer_header_writer.specs.Write.{writable, bytesOf};
 
 // Writes the header to the front of the output.
 pub fn write_per_peer_header(header: BmpPerPeerHeader, out: &mut [u8]) -> WriteAnswer
-    ensures { λ r. ⌜ r ≡ writeAnswer (writable header) (length (bytesOf header)) (length (now (out .entry))) ⌝ }
-    ensures { λ _. ⌜ now (out .exit) ≡ written (writable header) (bytesOf header) (now (out .entry)) ⌝ }
+    ensures { λ r. ⌜ Wrote (writable header) (bytesOf header) (now (out .entry)) r (now (out .exit)) ⌝ }
 {
     let answer = writing::write_answer(is_writable(header), PER_PEER_HEADER, out.len());
     let WriteAnswer::Written(_) = answer else {

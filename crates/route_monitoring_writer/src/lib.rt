@@ -4,7 +4,7 @@ use wire::View;
 use writing::WriteAnswer;
 ghost use mathlib.Core.Path.{_≡_};
 ghost use lib.ListN.{length};
-ghost use Rattle.writing.specs.Write.{writeAnswer, written};
+ghost use Rattle.writing.specs.Write.{Wrote};
 ghost use Rattle.route_monitoring_writer.specs.Write.{viewWritable, writable, bytesOf};
 
 // Writes the message, whose view points into the buffer, to the front of the output.
@@ -13,8 +13,7 @@ pub fn write_route_monitoring(
     buffer: &[u8],
     out: &mut [u8],
 ) -> WriteAnswer
-    ensures { λ r. ⌜ r ≡ writeAnswer (writable message (length (now (buffer .entry)))) (length (bytesOf message (now (buffer .entry)))) (length (now (out .entry))) ⌝ }
-    ensures { λ _. ⌜ now (out .exit) ≡ written (writable message (length (now (buffer .entry)))) (bytesOf message (now (buffer .entry))) (now (out .entry)) ⌝ }
+    ensures { λ r. ⌜ Wrote (writable message (length (now (buffer .entry)))) (bytesOf message (now (buffer .entry))) (now (out .entry)) r (now (out .exit)) ⌝ }
 {
     let view = message.bgp_message;
     let part = view.part(buffer);

@@ -6,14 +6,13 @@ use writing::WriteAnswer;
 ghost use mathlib.Core.Path.{_≡_};
 ghost use Prim.Native.Nat.{_+_, _≤_};
 ghost use lib.ListN.{length};
-ghost use Rattle.writing.specs.Write.{putAt, writeAnswer, written};
+ghost use Rattle.writing.specs.Write.{putAt, Wrote};
 ghost use Rattle.stats_report_writer.specs.Write.{plain, counterWritable, oneCounter, bytesOf, writable};
 
 // Writes the report, whose views point into the buffer, to the front of the output. The table is judged and measured in one pass
 // and written in a second, where it stands.
 pub fn write_stats_report(report: StatsReport, buffer: &[u8], out: &mut [u8]) -> WriteAnswer
-    ensures { λ r. ⌜ r ≡ writeAnswer (writable report (length (now (buffer .entry)))) (length (bytesOf report (now (buffer .entry)))) (length (now (out .entry))) ⌝ }
-    ensures { λ _. ⌜ now (out .exit) ≡ written (writable report (length (now (buffer .entry)))) (bytesOf report (now (buffer .entry))) (now (out .entry)) ⌝ }
+    ensures { λ r. ⌜ Wrote (writable report (length (now (buffer .entry)))) (bytesOf report (now (buffer .entry))) (now (out .entry)) r (now (out .exit)) ⌝ }
 {
     let count = report.count;
     if COUNTER_PLACES < count {

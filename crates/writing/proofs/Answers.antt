@@ -13,7 +13,7 @@ use Rattle.wire.specs.Number as Number
 use Rattle.wire.specs.Bytes.{pick}
 use Rattle.wire.specs.Refusal.{refusal}
 use Rattle.wire.proofs.Determined.{determined}
-use Rattle.writing.specs.Write.{lengthOf, writeAnswer, after, written, Wrote}
+use Rattle.writing.specs.Write.{lengthOf, writeAnswer, after, Wrote}
 use Rattle.wire.specs.declared.Refusal.{Refusal}
 use Rattle.writing.specs.declared.WriteAnswer.{WriteAnswer}
 use Rattle.writing.specs.declared.WriteAnswer.the-variants.{Written, Refused}
@@ -44,23 +44,26 @@ does-write ok n room e short fits = rw (e, le-ltb Number.limit n short, le-ltb r
 
 -- ---- a writer that asked for the answer a by the length n, which is that of the bytes s where the record is ok
 module _ (ok : Bool) (s out : List ℕ) (n : ℕ) (long : ok ≡ true → length s ≡ n) (a : WriteAnswer) (asked : a ≡ writeAnswer ok n (length out)) where
-  pub answered : a ≡ writeAnswer ok (length s) (length out)
+  answered : a ≡ writeAnswer ok (length s) (length out)
   answered = asked ∙ go ok refl
     where
       go : (b : Bool) → ok ≡ b → writeAnswer ok n (length out) ≡ writeAnswer ok (length s) (length out)
       go true e = rw (long e)
       go false e = rw e
 
-  pub left-alone : (r : Refusal) → a ≡ Refused r → out ≡ written ok s out
-  left-alone r e = ap (λ (x : WriteAnswer). after x s out) (sym e ∙ answered)
+  pub left-alone : (r : Refusal) → a ≡ Refused r → Wrote ok s out a out
+  left-alone r e = record { answered = answered; left = ap (λ (x : WriteAnswer). after x s out) (sym e ∙ answered) }
 
   module _ (k : ℕ) (e : a ≡ Written k) where
     pub wrote : Writes ok (length s) (length out) k
     wrote = writes ok (length s) (length out) k (sym e ∙ answered)
 
-    pub put-there : (out′ : List ℕ) → out′ ≡ sets out 0 s → out′ ≡ written ok s out
+    pub put-there : (out′ : List ℕ) → out′ ≡ sets out 0 s → Wrote ok s out a out′
     put-there out′ p =
-        p ∙ sets-eq s out 0 (rw zero-add (wrote .fits)) ∙ rw zero-add (ap (λ (x : WriteAnswer). after x s out) (sym e ∙ answered))
+        record {
+          answered = answered;
+          left = p ∙ sets-eq s out 0 (rw zero-add (wrote .fits)) ∙ rw zero-add (ap (λ (x : WriteAnswer). after x s out) (sym e ∙ answered));
+        }
 
 -- ---- what stands in front of the output of a writer that had room
 pub record Front (s out′ : List ℕ) (r : WriteAnswer) : Type 0 where
@@ -80,8 +83,8 @@ front {ok} {s} {out} {out′} {r} wrote w short fits =
 
 -- ---- a writer whose record is not ok
 pub refused-so : (ok : Bool) (s out : List ℕ) → ok ≡ false → (a : WriteAnswer) → a ≡ writeAnswer false 0 (length out)
-    → (a ≡ writeAnswer ok (length s) (length out)) × (out ≡ written ok s out)
-refused-so ok s out e a asked = (asked ∙ sym (rw e), rw e)
+    → Wrote ok s out a out
+refused-so ok s out e a asked = record { answered = asked ∙ sym (rw e); left = rw e }
 
 -- ---- any two answers, and any two outputs, of one writer for the same record and output
 pub wrote-determined : {ok : Bool} {s out : List ℕ} {r q : WriteAnswer} {o p : List ℕ} → Wrote ok s out r o → Wrote ok s out q p → (r ≡ q) × (o ≡ p)

@@ -8,7 +8,7 @@ use native.Mathlib.Nat.{zero-add}
 use lib.ListN.{length, take, drop, getD, length-append}
 use lib.Seq.{sets, length-sets}
 use Rattle.wire.specs.declared.Refusal.{Refusal}
-use Rattle.writing.specs.Write.{putAt, writeAnswer, written}
+use Rattle.writing.specs.Write.{putAt, writeAnswer, Wrote}
 use Rattle.writing.specs.Table.{Writer, joined, allOk, sizes}
 use Rattle.writing.specs.declared.WriteAnswer.{WriteAnswer}
 use Rattle.writing.specs.declared.WriteAnswer.the-variants.{Written, Refused}
@@ -85,8 +85,8 @@ module _ {W : Writer} {table : List (W .Entry)} {n : ℕ} {b : List ℕ} {ok : B
     long : length s ≡ m
     long = ap length (q .bytes-are) ∙ length-append front (joined W b (take n table)) ∙ omega (arith, q .added, length-joined W B b (take n table) (q .fine))
 
-    pub asked-refused : {r : Refusal} → a ≡ Refused r → (a ≡ writeAnswer ok (length s) (length out)) × (out ≡ written ok s out)
-    asked-refused {r} e = (Answers.answered ok s out m (λ o. long) a (q .asked), Answers.left-alone ok s out m (λ o. long) a (q .asked) r e)
+    pub asked-refused : {r : Refusal} → a ≡ Refused r → Wrote ok s out a out
+    asked-refused {r} e = Answers.left-alone ok s out m (λ o. long) a (q .asked) r e
 
     -- the output keeps its length
     pub asked-long : {out₁ out′ : List ℕ} {at₁ at k : ℕ} → out₁ ≡ sets out 0 front → Placed W table n b out₁ at₁ out′ at k → length out′ ≡ length out
@@ -102,15 +102,13 @@ module _ {W : Writer} {table : List (W .Entry)} {n : ℕ} {b : List ℕ} {ok : B
           record { few = q .few; below = omega arith; fine = q .fine; room = omega (arith, asked-room, same, h); long = refl; so-far = refl }
 
       pub asked-ends : {out₁ out′ : List ℕ} {at₁ at k : ℕ} → out₁ ≡ sets out 0 front → at₁ ≡ length front → Placed W table n b out₁ at₁ out′ at k → n ≤ k
-          → (a ≡ writeAnswer ok (length s) (length out)) × (out′ ≡ written ok s out)
+          → Wrote ok s out a out′
       asked-ends {out₁} {out′} {at₁} {at} {k} p h x l =
           let t = joined W b (take n table) in
           let r : out′ ≡ sets out₁ at₁ t = sym (x .so-far ∙ ap (λ (u : List (W .Entry)). sets out′ at (joined W b u)) (done table n k l)) in
           let w : sets out 0 (front ++ t) ≡ sets out₁ at₁ t =
-          sets-append front t out 0 ∙ ap₂ (λ (o : List ℕ) (i : ℕ). sets o i t) (sym p) (zero-add (length front) ∙ sym h) in (
-            Answers.answered ok s out m (λ o. long) a (q .asked),
-            Answers.put-there ok s out m (λ o. long) a (q .asked) j e out′ (r ∙ sym w ∙ ap (sets out 0) (sym (q .bytes-are))),
-          )
+          sets-append front t out 0 ∙ ap₂ (λ (o : List ℕ) (i : ℕ). sets o i t) (sym p) (zero-add (length front) ∙ sym h) in
+          Answers.put-there ok s out m (λ o. long) a (q .asked) j e out′ (r ∙ sym w ∙ ap (sets out 0) (sym (q .bytes-are)))
 
 -- ---- the second loop
 module _ {W : Writer} {one : List ℕ → W .Entry → List ℕ} (B : Bodied W one) {table : List (W .Entry)} {n : ℕ} {b out₀ : List ℕ} {at₀ : ℕ} {out : List ℕ} {at k : ℕ}

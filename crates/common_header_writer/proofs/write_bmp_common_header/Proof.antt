@@ -7,7 +7,7 @@ use lib.ListN.{length}
 use Rattle.common_header_writer.specs.Write.{bytesOf, writable}
 use Rattle.wire.specs.Bytes.{be}
 use Rattle.writing.specs.Write.{writeAnswer}
-use Rattle.writing.proofs.Answers.{answered, left-alone, wrote, put-there}
+use Rattle.writing.proofs.Answers.{left-alone, wrote, put-there}
 use Rattle.common_header_writer.proofs.write_bmp_common_header.Statement.{statement}
 use Rattle.common_header_writer.proofs.write_bmp_common_header.Tie as tie
 use Rattle.common_header.specs.declared.BmpCommonHeader.{BmpCommonHeader}
@@ -35,7 +35,7 @@ returns : tie.Need-returns
 returns c =
     let h = c .before .before .before .before .before .args .header in
     let out = now (c .before .before .before .before .before .args .out) in
-    (answered _ (bytesOf h) out 6 (six h) _ (asked (c .before .before)), left-alone _ (bytesOf h) out 6 (six h) _ (asked (c .before .before)) _ (c .enum-told2 .given .1))
+    left-alone _ (bytesOf h) out 6 (six h) _ (asked (c .before .before)) _ (c .enum-told2 .given .1)
 
 put-header-requires : tie.Need-put-header-requires
 put-header-requires c κs =
@@ -50,7 +50,7 @@ returns-2 : tie.Need-returns-2
 returns-2 c =
     let h = c .before .before .before .before .before .before .before .before .before .args .header in
     let out = now (c .before .before .before .before .before .before .before .before .before .args .out) in
-    (answered _ (bytesOf h) out 6 (six h) _ (asked (c .before .before .before .before .before .before)), put-there _ (bytesOf h) out 6 (six h) _ (asked (c .before .before .before .before .before .before)) _ (c .before .before .before .before .enum-told .given .1) _ (c .before .before .put-header .ensures))
+    put-there _ (bytesOf h) out 6 (six h) _ (asked (c .before .before .before .before .before .before)) _ (c .before .before .before .before .enum-told .given .1) _ (c .before .before .put-header .ensures)
 
 pub write-bmp-common-header-spec : {M : Type 1} → statement M
 write-bmp-common-header-spec =

@@ -15,7 +15,7 @@ use Rattle.wire.specs.Bytes.{be}
 use Rattle.wire.specs.View.{viewed}
 use Rattle.wire.proofs.Bytes.{length-be}
 use Rattle.writing.specs.Write.{writeAnswer}
-use Rattle.writing.proofs.Answers.{answered, left-alone, wrote, put-there, refused-so}
+use Rattle.writing.proofs.Answers.{left-alone, wrote, put-there, refused-so}
 use Rattle.writing.proofs.Sets.{put-fits, put-then}
 use Rattle.peer_down_notification_writer.proofs.write_peer_down_notification.Statement.{statement}
 use Rattle.peer_down_notification_writer.proofs.write_peer_down_notification.Tie as tie
@@ -77,7 +77,7 @@ returns-2 c =
     let out = now (c .before .before .before .before .before .before .before .before .before .before .args .out) in
     let n = long (c .before .before .before) in
     let a = asked (c .before .before) in
-    (answered _ (bytesOf m b) out _ n _ a, left-alone _ (bytesOf m b) out _ n _ a _ (c .enum-told2 .given .1))
+    left-alone _ (bytesOf m b) out _ n _ a _ (c .enum-told2 .given .1)
 
 number-requires : tie.Need-number-requires
 number-requires c κs = search needs
@@ -106,7 +106,7 @@ returns-3 c =
     let both : be 1 kind ++ part ≡ bytesOf m b = (λ i. be 1 (c .before .before .before .before .before .before .before .number .ensures i) ++ part-is (c .before .before .before .before .before .before .before .before .before .before .before .before) i) ∙ bytes-are m b in
     let all : length (be 1 kind ++ part) ≤ length out - 0 = rw (length-append (be 1 kind) part, one) (omega arith) in
     let put = put-then out _ _ 0 1 (be 1 kind) part (rw one (omega arith)) (c .before .before .before .before .before .before .put-u8 .ensures) (omega (arith, one)) (c .before .before .put-bytes .ensures) ∙ put-fits out 0 (be 1 kind ++ part) all ∙ ap (sets out 0) both in
-    (answered _ (bytesOf m b) out _ n _ a, put-there _ (bytesOf m b) out _ n _ a _ (c .before .before .before .before .before .before .before .before .before .enum-told .given .1) _ put)
+    put-there _ (bytesOf m b) out _ n _ a _ (c .before .before .before .before .before .before .before .before .before .enum-told .given .1) _ put
 
 pub write-peer-down-notification-spec : {M : Type 1} → statement M
 write-peer-down-notification-spec =

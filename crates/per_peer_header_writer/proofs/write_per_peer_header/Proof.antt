@@ -8,7 +8,7 @@ use lib.ListN.{length}
 use Rattle.per_peer_header_writer.specs.Write.{bytesOf, writable, Typed}
 use Rattle.per_peer_header_writer.proofs.Written.{length-written}
 use Rattle.writing.specs.Write.{writeAnswer}
-use Rattle.writing.proofs.Answers.{answered, left-alone, wrote, put-there}
+use Rattle.writing.proofs.Answers.{left-alone, wrote, put-there}
 use Rattle.per_peer_header_writer.proofs.write_per_peer_header.Statement.{statement}
 use Rattle.per_peer_header_writer.proofs.write_per_peer_header.Tie as tie
 use Rattle.wire.proofs.Held.{array-bytes}
@@ -50,7 +50,7 @@ returns : tie.Need-returns
 returns c =
     let h = c .before .before .before .before .before .args .header in
     let out = now (c .before .before .before .before .before .args .out) in
-    (answered _ (bytesOf h) out 42 (long (c .before .before)) _ (asked (c .before .before)), left-alone _ (bytesOf h) out 42 (long (c .before .before)) _ (asked (c .before .before)) _ (c .enum-told2 .given .1))
+    left-alone _ (bytesOf h) out 42 (long (c .before .before)) _ (asked (c .before .before)) _ (c .enum-told2 .given .1)
 
 put-header-requires : tie.Need-put-header-requires
 put-header-requires c κs =
@@ -65,7 +65,7 @@ returns-2 : tie.Need-returns-2
 returns-2 c =
     let h = c .before .before .before .before .before .before .before .before .before .args .header in
     let out = now (c .before .before .before .before .before .before .before .before .before .args .out) in
-    (answered _ (bytesOf h) out 42 (long (c .before .before .before .before .before .before)) _ (asked (c .before .before .before .before .before .before)), put-there _ (bytesOf h) out 42 (long (c .before .before .before .before .before .before)) _ (asked (c .before .before .before .before .before .before)) _ (c .before .before .before .before .enum-told .given .1) _ (c .before .before .put-header .ensures))
+    put-there _ (bytesOf h) out 42 (long (c .before .before .before .before .before .before)) _ (asked (c .before .before .before .before .before .before)) _ (c .before .before .before .before .enum-told .given .1) _ (c .before .before .put-header .ensures)
 
 pub write-per-peer-header-spec : {M : Type 1} → statement M
 write-per-peer-header-spec =

@@ -34,7 +34,7 @@ returns : tie.Need-returns
 returns c =
     let ok = writable (c .before .before .before .before .before .before .before .before .args .message) (length (now (c .before .before .before .before .before .before .before .before .args .buffer))) in
     let s = bytesOf (c .before .before .before .before .before .before .before .before .args .message) (now (c .before .before .before .before .before .before .before .before .args .buffer)) in
-    (asked (c .before .before), left-alone ok s (now (c .before .before .before .before .before .before .before .before .args .out)) (length s) (λ w. refl) _ (asked (c .before .before)) _ (c .enum-told2 .given .1))
+    left-alone ok s (now (c .before .before .before .before .before .before .before .before .args .out)) (length s) (λ w. refl) _ (asked (c .before .before)) _ (c .enum-told2 .given .1)
 
 put-bytes-requires : tie.Need-put-bytes-requires
 put-bytes-requires c κs = search needs
@@ -50,7 +50,7 @@ returns-2 c =
     let w = wrote ok s out (length s) (λ w. refl) _ (asked (c .before .before .before .before .before .before)) _ (c .before .before .before .before .enum-told .given .1) in
     let room : length s ≤ length out - 0 = omega (arith, w .fits) in
     let put = c .before .before .put-bytes .ensures ∙ ap (λ (l : List ℕ). putAt out 0 l) (c .before .before .before .before .before .before .before .before .part .ensures) ∙ put-fits out 0 s room in
-    (asked (c .before .before .before .before .before .before), put-there ok s out (length s) (λ w. refl) _ (asked (c .before .before .before .before .before .before)) _ (c .before .before .before .before .enum-told .given .1) _ put)
+    put-there ok s out (length s) (λ w. refl) _ (asked (c .before .before .before .before .before .before)) _ (c .before .before .before .before .enum-told .given .1) _ put
 
 pub write-route-monitoring-spec : {M : Type 1} → statement M
 write-route-monitoring-spec =
