@@ -40,8 +40,8 @@ pub fn write_openbmp_header(header: OpenBmpHeader, buffer: &[u8], out: &mut [u8]
     answer
 }
 
-fn is_writable(header: OpenBmpHeader, room: usize) -> bool
-    ensures { λ r. ⌜ r ≡ writable header room ⌝ }
+fn is_writable(header: OpenBmpHeader, buffer_length: usize) -> bool
+    ensures { λ r. ⌜ r ≡ writable header «buffer_length» ⌝ }
 {
     let router_ip = header.router_ip;
     let admin_id = header.admin_id;
@@ -59,10 +59,10 @@ fn is_writable(header: OpenBmpHeader, room: usize) -> bool
     if !ip_fits(router_ip) {
         return false;
     }
-    if !view_fits(admin_id, room) {
+    if !view_fits(admin_id, buffer_length) {
         return false;
     }
-    view_fits(router_group, room)
+    view_fits(router_group, buffer_length)
 }
 
 fn has_fixed_values(major: u8, minor: u8, object_type: u8) -> bool
@@ -86,13 +86,13 @@ fn ip_fits(address: IpAddr) -> bool
 }
 
 // The length of a view has two bytes on the wire.
-fn view_fits(view: View, room: usize) -> bool
-    ensures { λ r. ⌜ r ≡ viewFits view room ⌝ }
+fn view_fits(view: View, buffer_length: usize) -> bool
+    ensures { λ r. ⌜ r ≡ viewFits view «buffer_length» ⌝ }
 {
     if 65_535 < view.length {
         return false;
     }
-    view.is_inside(room)
+    view.is_inside(buffer_length)
 }
 
 // Versions and object type are the ones that every writable header has.

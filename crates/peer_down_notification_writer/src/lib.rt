@@ -34,20 +34,20 @@ pub fn write_peer_down_notification(
     answer
 }
 
-fn is_writable(reason: PeerDownReason, present: bool, view: View, room: usize) -> bool
-    ensures { λ r. ⌜ r ≡ partsWritable (kindOf reason) present view room ⌝ }
+fn is_writable(reason: PeerDownReason, present: bool, view: View, buffer_length: usize) -> bool
+    ensures { λ r. ⌜ r ≡ partsWritable (kindOf reason) present view «buffer_length» ⌝ }
 {
     let given = reason.has_data(view.length);
     if present {
         if given {
-            return view.is_inside(room);
+            return view.is_inside(buffer_length);
         }
         return false;
     }
     if given {
         return false;
     }
-    view.is_inside(room)
+    view.is_inside(buffer_length)
 }
 
 fn is_present(data: PeerDownData) -> bool

@@ -25,11 +25,11 @@ pub fn write_route_monitoring(
     answer
 }
 
-fn is_writable(view: View, room: usize) -> bool
-    ensures { λ r. ⌜ r ≡ viewWritable view room ⌝ }
+fn is_writable(view: View, buffer_length: usize) -> bool
+    ensures { λ r. ⌜ r ≡ viewWritable view «buffer_length» ⌝ }
 {
     if wire::BGP_HEADER <= view.length {
-        return view.is_inside(room);
+        return view.is_inside(buffer_length);
     }
     false
 }
