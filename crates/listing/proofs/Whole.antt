@@ -8,9 +8,9 @@ use native.Mathlib.Nat.{zero-add}
 use borrow.Author.Tests.{lt-ltb, le-ltb}
 use lib.ListN.{length}
 use Rattle.wire.specs.Number as Number
-use Rattle.writing.specs.Write.{putAt, writeAnswer, written}
+use Rattle.writing.specs.Write.{putAt, writeAnswer, Wrote}
 use Rattle.writing.specs.declared.WriteAnswer.the-variants.{Written}
-use Rattle.writing.proofs.Answers.{does-write, answered, put-there}
+use Rattle.writing.proofs.Answers.{does-write, put-there}
 use Rattle.listing.specs.Text.{heading, refusedLine, endLine}
 use Rattle.listing.specs.Listing.{longest, text, enough}
 use Rattle.listing.specs.Steps.{linesFrom, Puts}
@@ -36,11 +36,9 @@ module _ (s b : List ℕ) (e : text s ≡ heading ++ b) where
 
 -- an output that has room for any text takes it at once
 pub written-at-once : (s out out′ : List ℕ) (k : ℕ) → enough ≤ length out → k ≡ length (text s) → Puts out 0 (text s) out′
-    → (Written k ≡ writeAnswer true (length (text s)) (length out)) × (out′ ≡ written true (text s) out)
+    → Wrote true (text s) out (Written k) out′
 written-at-once s out out′ k h e p =
     let n = text-short s in
     let asked : Written k ≡ writeAnswer true k (length out) =
-    sym (does-write true k (length out) refl (omega (arith, n, e)) (omega (arith, n, e, h))) in (
-      answered true (text s) out k (λ _. sym e) (Written k) asked,
-      put-there true (text s) out k (λ _. sym e) (Written k) asked k refl out′ (p (omega (arith, n, h))),
-    )
+    sym (does-write true k (length out) refl (omega (arith, n, e)) (omega (arith, n, e, h))) in
+    put-there true (text s) out k (λ _. sym e) (Written k) asked k refl out′ (p (omega (arith, n, h)))

@@ -6,7 +6,7 @@ ghost use mathlib.Core.Bool.{true};
 ghost use mathlib.Core.List.{[], _∷_, _++_};
 ghost use Prim.Native.Nat.{_+_, _≤_};
 ghost use lib.ListN.{length, drop};
-ghost use Rattle.writing.specs.Write.{writeAnswer, written};
+ghost use Rattle.writing.specs.Write.{Wrote};
 ghost use Rattle.decimal.specs.Decimal.{decimal};
 ghost use Rattle.listing.specs.Text.{messageLine, refusedLine, endLine};
 ghost use Rattle.listing.specs.Listing.{longest, enough, text};
@@ -27,8 +27,7 @@ enum Row {
 
 // Lists the messages of a stream. Where the output may be too short, the same walk without one says beforehand how long the text is.
 pub fn list_messages(s: &[u8], out: &mut [u8]) -> WriteAnswer
-    ensures { λ r. ⌜ r ≡ writeAnswer true (length (text (now (s .entry)))) (length (now (out .entry))) ⌝ }
-    ensures { λ _. ⌜ now (out .exit) ≡ written true (text (now (s .entry))) (now (out .entry)) ⌝ }
+    ensures { λ r. ⌜ Wrote true (text (now (s .entry))) (now (out .entry)) r (now (out .exit)) ⌝ }
 {
     if ENOUGH <= out.len() {
         return WriteAnswer::Written(put_text(s, out));

@@ -3,7 +3,7 @@ use mathlib.Core.Path.{sym}
 use mathlib.Core.Bool.{true}
 use native.Mathlib.Omega.{arith}
 use denote.Ref.{now}
-use Rattle.writing.proofs.Answers.{answered, left-alone, wrote, put-there}
+use Rattle.writing.proofs.Answers.{left-alone, wrote, put-there}
 use Rattle.listing.specs.Listing.{text}
 use Rattle.listing.proofs.Whole.{written-at-once}
 use Rattle.listing.proofs.list_messages.Statement.{statement}
@@ -37,10 +37,8 @@ returns-2 : tie.Need-returns-2
 returns-2 c =
     let s = text (now (c .before .before .before .before .before .before .before .before .before .args .s)) in
     let out = now (c .before .before .before .before .before .before .before .before .before .args .out) in
-    let n = c .before .before .before .before .put-text2 .result in (
-      answered true s out n (λ e. sym (c .before .before .before .before .put-text2 .ensures .0)) (c .before .before .write-answer .result) (c .before .before .write-answer .ensures),
-      left-alone true s out n (λ e. sym (c .before .before .before .before .put-text2 .ensures .0)) (c .before .before .write-answer .result) (c .before .before .write-answer .ensures) _ (c .enum-told2 .given .1),
-    )
+    let n = c .before .before .before .before .put-text2 .result in
+    left-alone true s out n (λ e. sym (c .before .before .before .before .put-text2 .ensures .0)) (c .before .before .write-answer .result) (c .before .before .write-answer .ensures) _ (c .enum-told2 .given .1)
 
 put-text-requires-3 : tie.Need-put-text-requires-3
 put-text-requires-3 c κs = search needs
@@ -53,11 +51,9 @@ returns-3 c =
     let s = text (now (c .before .before .before .before .before .before .before .before .before .before .before .before .before .args .s)) in
     let out = now (c .before .before .before .before .before .before .before .before .before .before .before .before .before .args .out) in
     let n = c .before .before .before .before .before .before .before .before .put-text2 .result in
-    let w = wrote true s out n (λ e. sym (c .before .before .before .before .before .before .before .before .put-text2 .ensures .0)) (c .before .before .before .before .before .before .write-answer .result) (c .before .before .before .before .before .before .write-answer .ensures) _ (c .before .before .before .before .enum-told .given .1) in (
-      answered true s out n (λ e. sym (c .before .before .before .before .before .before .before .before .put-text2 .ensures .0)) (c .before .before .before .before .before .before .write-answer .result) (c .before .before .before .before .before .before .write-answer .ensures),
-      put-there true s out n (λ e. sym (c .before .before .before .before .before .before .before .before .put-text2 .ensures .0)) (c .before .before .before .before .before .before .write-answer .result) (c .before .before .before .before .before .before .write-answer .ensures) _ (c .before .before .before .before .enum-told .given .1) (c .before .before .put-text3 .last .1 .0)
-          (c .before .before .put-text3 .ensures .1 (omega (arith, w .fits))),
-    )
+    let w = wrote true s out n (λ e. sym (c .before .before .before .before .before .before .before .before .put-text2 .ensures .0)) (c .before .before .before .before .before .before .write-answer .result) (c .before .before .before .before .before .before .write-answer .ensures) _ (c .before .before .before .before .enum-told .given .1) in
+    put-there true s out n (λ e. sym (c .before .before .before .before .before .before .before .before .put-text2 .ensures .0)) (c .before .before .before .before .before .before .write-answer .result) (c .before .before .before .before .before .before .write-answer .ensures) _ (c .before .before .before .before .enum-told .given .1) (c .before .before .put-text3 .last .1 .0)
+    (c .before .before .put-text3 .ensures .1 (omega (arith, w .fits)))
 
 pub list-messages-spec : {M : Type 1} → statement M
 list-messages-spec =
