@@ -4,8 +4,8 @@ ghost use lib.ListN.{length};
 ghost use Rattle.writing.specs.Write.{putAt};
 ghost use Rattle.decimal.specs.Decimal.{decimal};
 
-// Puts the digits of a number at a place of the output, the last first, and answers how many they are; where they do not fit, nothing
-// changes.
+// Puts the decimal digits of a number at a place of the output; where they do not fit, nothing changes. Answers how many they are in
+// either case.
 pub fn put_decimal(out: &mut [u8], at: usize, n: usize) -> usize
     ensures { λ r. ⌜ r ≡ length (decimal n) ⌝ }
     ensures { λ _. ⌜ now (out .exit) ≡ putAt (now (out .entry)) at (decimal n) ⌝ }

@@ -26,6 +26,7 @@ pub struct InitiationTlv {
     pub place: u32,
 }
 
+// The TLVs, of which the first count are used; the others are zero.
 pub struct InitiationMessage {
     pub tlvs: [InitiationTlv; wire::TLV_PLACES],
     pub count: usize,

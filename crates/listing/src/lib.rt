@@ -1,4 +1,5 @@
 // What a BMP stream holds, as text: a line for each message.
+use common_header::COMMON_HEADER;
 use splitter::SplitAnswer;
 use writing::WriteAnswer;
 ghost use mathlib.Core.Path.{_≡_};
@@ -25,7 +26,7 @@ enum Row {
     Refused(usize),
 }
 
-// Lists the messages of a stream. Where the output may be too short, the same walk without one says beforehand how long the text is.
+// Lists the messages of a stream of at most 65,536 bytes, all of the text or, where the output is too short for it, none.
 pub fn list_messages(s: &[u8], out: &mut [u8]) -> WriteAnswer
     ensures { λ r. ⌜ Wrote true (text (now (s .entry))) (now (out .entry)) r (now (out .exit)) ⌝ }
 {
@@ -88,7 +89,7 @@ fn row_at(s: &[u8], at: usize) -> Row
         SplitAnswer::Message(header, message) => {
             let msg_type = header.msg_type;
             let whole = message.part(rest);
-            let answer = message_answer::answer_of(msg_type, &whole[6..]);
+            let answer = message_answer::answer_of(msg_type, &whole[COMMON_HEADER..]);
             Row::Message(
                 common_header::kind_of(msg_type) as usize,
                 header.msg_len as usize,

@@ -22,7 +22,8 @@ enum PeerBody {
     Mirroring,
 }
 
-// What follows the common header of a message of this type; 0 exactly where it has a reading.
+// Judges what follows the common header of a message of this type: the number of the first part that is refused, 0 exactly where the
+// message has a reading.
 pub fn answer_of(msg_type: BmpMsgType, rest: &[u8]) -> u8
     ensures { λ r. ⌜ r ≡ answerOf «msg_type» (now (rest .entry)) ⌝ }
     ensures { λ r. ⌜ GoodExactly «msg_type» (now (rest .entry)) r ⌝ }

@@ -10,6 +10,7 @@ pub struct BgpIdentifier(pub u32);
 
 pub struct PeerDistinguisher(pub u64);
 
+// The family of an address.
 pub enum Afi {
     Ipv4,
     Ipv6,
@@ -79,7 +80,9 @@ fn same_octets(a: [u8; 16], b: [u8; 16]) -> bool
     true
 }
 
-// Warnings are bits of one word (docs/RULES.md, "Warnings"), all five of a Loc-RIB. Its address is not zero.
+// The five warnings, each a bit of one word (docs/RULES.md, "Warnings"); all are of a Loc-RIB.
+//
+// Its address is not zero.
 pub const STRAY_ADDRESS: u32 = 1;
 // Its BGP identifier is zero, and its distinguisher is not.
 pub const NO_ROUTER_ID: u32 = 2;

@@ -11,7 +11,7 @@ ghost use Rattle.writing.specs.Write.{putAt, Wrote};
 ghost use Rattle.openbmp.specs.Grammar.{flagsOf};
 ghost use Rattle.openbmp_writer.specs.Write.{familyBit, fixedFits, ipFits, viewFits, writable, bytesOf, frontBytes, timeBytes, counted, restBytes};
 
-// A writable header is never too long: each of its two texts has at most 65,535 bytes. Its octets that are skipped on reading are zero,
+// Writes the header, whose views point into the buffer, to the front of the output. A writable one is never too long: each of its two texts has at most 65,535 bytes. Its octets that are skipped on reading are zero,
 // so all sixteen are put as they are.
 pub fn write_openbmp_header(header: OpenBmpHeader, buffer: &[u8], out: &mut [u8]) -> WriteAnswer
     ensures { λ r. ⌜ Wrote (writable header (length (now (buffer .entry)))) (bytesOf header (now (buffer .entry))) (now (out .entry)) r (now (out .exit)) ⌝ }

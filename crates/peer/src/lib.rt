@@ -50,7 +50,7 @@ impl BmpPerPeerHeader {
         peer_flags.asn_length()
     }
 
-    // The words decide and not the f64, which -0.0 would fool.
+    // The time, or that there is none: both words are zero. The words decide and not the f64, which -0.0 would fool.
     pub fn peer_time(self) -> PeerTime
         ensures { λ r. ⌜ r ≡ peerTime self ⌝ }
     {
@@ -63,7 +63,8 @@ impl BmpPerPeerHeader {
         PeerTime::Unavailable
     }
 
-    // Two headers with one time are equal whatever words it comes from, since the Rust has no words to compare.
+    // Whether type, flags, distinguisher, address, AS, BGP identifier and time are the same. The words that the time comes from are not
+    // compared, since the Rust has none.
     pub fn equals(self, other: BmpPerPeerHeader) -> bool
         ensures { λ r. ⌜ r ≡ sameHeader self other ⌝ }
     {
@@ -92,7 +93,7 @@ impl BmpPerPeerHeader {
         self.timestamp == other.timestamp
     }
 
-    // To compare headers whose times do not matter.
+    // The same header with the time and both of its words zero, to compare headers whose times do not matter.
     pub fn strip_timestamp(self) -> BmpPerPeerHeader
         ensures { λ r. ⌜ r ≡ stripped self ⌝ }
     {

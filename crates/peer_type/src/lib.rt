@@ -4,6 +4,7 @@ use models::AsnLength;
 ghost use mathlib.Core.Path.{_≡_};
 ghost use Rattle.peer_type.specs.Peer.{typeOf, kindOf, flagL, flagO, flagF, addressFamily, asnLength};
 
+// The types of peers, by their numbers from 0 on.
 pub enum BmpPeerType {
     Global,
     RD,
@@ -40,8 +41,8 @@ pub fn type_of(kind: u8) -> BmpPeerType
     }
 }
 
-// The flags as they stand in the header, with the bits that have no meaning. A peer of types 0 to 2 has the first four, a Loc-RIB
-// the last: what a bit means depends on the type.
+// The flags as they stand in the header, with the bits that have no meaning. What a bit means depends on the type of the peer: V, L, A
+// and O are of types 0 to 2, F is of a Loc-RIB.
 pub struct PerPeerFlags(pub u8);
 
 const ADDRESS_FAMILY_IPV6: u8 = 0b1000_0000;

@@ -37,6 +37,7 @@ pub struct PeerUpNotificationTlv {
     pub place: u32,
 }
 
+// Both ends of the session, where its two OPENs stand, and the TLVs, of which the first count are used.
 pub struct PeerUpNotification {
     pub local_addr: IpAddr,
     pub local_port: u16,

@@ -30,6 +30,7 @@ pub struct RouteMirroringTlv {
     pub number: u32,
 }
 
+// The TLVs, of which the first count are used; the others are zero.
 pub struct RouteMirroring {
     pub tlvs: [RouteMirroringTlv; wire::TLV_PLACES],
     pub count: usize,

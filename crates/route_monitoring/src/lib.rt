@@ -18,7 +18,8 @@ pub enum RouteMonitoringAnswer {
     Refused(Refusal),
 }
 
-// Reads the body, which is one BGP message, by the length of an AS number and the type of the peer, which the per-peer header tells.
+// Reads the body, which is one BGP message. The length of an AS number and the type of the peer, which the per-peer header tells, decide
+// the warning.
 pub fn parse_route_monitoring(
     s: &[u8],
     asn_len: AsnLength,

@@ -16,7 +16,7 @@ pub enum SplitAnswer {
     Refused(Refusal),
 }
 
-// Splits the first message off the front of the bytes.
+// Splits the first message off the front of the bytes, of which there may be 1,048,576: hand in a longer stream in parts.
 pub fn split_message(s: &[u8]) -> SplitAnswer
     ensures { λ r. ⌜ r ≡ splitOf (now (s .entry)) ⌝ }
 {

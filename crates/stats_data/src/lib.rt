@@ -9,6 +9,7 @@ ghost use lib.ListN.{length};
 ghost use Rattle.stats_data.specs.Shown.{dataOf};
 ghost use Rattle.stats_data.specs.Read.{readData};
 
+// What a counter says, by the length of its value: 4, 8, or 11 for an AFI, a SAFI and a gauge; of any other length where it stands.
 pub enum StatsData {
     Counter(u32),
     Gauge(u64),

@@ -37,6 +37,7 @@ pub struct TerminationTlv {
     pub number: u32,
 }
 
+// The TLVs, of which the first count are used; the others are zero.
 pub struct TerminationMessage {
     pub tlvs: [TerminationTlv; wire::TLV_PLACES],
     pub count: usize,

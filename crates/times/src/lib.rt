@@ -2,14 +2,16 @@
 ghost use mathlib.Core.Path.{_≡_};
 ghost use Rattle.times.specs.Time.{isTimestamp, timeOf};
 
-// The Rust's expression, operation for operation: another order would round to other bits.
+// Seconds and microseconds as one number of seconds: the Rust's expression, operation for operation, since another order would round to
+// other bits.
 pub fn timestamp(seconds: u32, microseconds: u32) -> f64
     ensures { λ r. ⌜ r ≡ timeOf seconds microseconds ⌝ }
 {
     seconds as f64 + microseconds as f64 / 1_000_000.0
 }
 
-// Whether a float has the very bits that the words give, as a writer asks; `==` takes -0.0 for 0.0, and to_bits has none for a NaN.
+// Whether a float has the very bits that the words give, as a writer asks. `==` alone takes -0.0 for 0.0, and it stands first since a NaN
+// has no bits to ask for.
 pub fn is_timestamp(t: f64, seconds: u32, microseconds: u32) -> bool
     ensures { λ r. ⌜ r ≡ isTimestamp t seconds microseconds ⌝ }
 {

@@ -13,6 +13,7 @@ pub enum TlvValue {
     Number(u16),
 }
 
+// A TLV to be written: its type, its length, and its value.
 pub struct TlvEntry {
     pub kind: u16,
     pub size: u16,

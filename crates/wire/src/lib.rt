@@ -6,30 +6,44 @@ ghost use Rattle.wire.specs.Refusal.{refusal, noRefusal, needAt};
 ghost use Rattle.wire.specs.View.{inside, noView, viewed};
 
 // The numbers that answers carry (docs/RULES.md, "Numbers").
+//
+// There is nothing wrong.
 pub const GOOD: u8 = 0;
 
+// The input or the message is longer than the limit.
 pub const TOO_LONG: u8 = 1;
 
+// A field or value has fewer bytes left than it needs.
 pub const CUT: u8 = 2;
 
+// The version is not 3.
 pub const BAD_VERSION: u8 = 3;
 
+// A type, reason or code has no name.
 pub const UNKNOWN_KIND: u8 = 4;
 
+// A TLV of Route Mirroring has a type above 1.
 pub const BAD_TLV_TYPE: u8 = 5;
 
+// The length of a BGP message is below 19.
 pub const BGP_LENGTH: u8 = 6;
 
+// There is one item more than the table holds.
 pub const TOO_MANY: u8 = 7;
 
+// An OpenBMP header has another magic number, version or row count.
 pub const BAD_OPEN_BMP: u8 = 8;
 
+// An OpenBMP message is not of a router, or not a raw BMP message.
 pub const UNSUPPORTED: u8 = 9;
 
+// The length of a message is below 6.
 pub const BAD_MESSAGE_LENGTH: u8 = 10;
 
+// The output is too short.
 pub const NO_ROOM: u8 = 11;
 
+// The record cannot be written.
 pub const BAD_FIELD: u8 = 12;
 
 // The longest slice that is read, and the longest message that is split off or written.
@@ -59,7 +73,7 @@ pub struct View {
     pub length: usize,
 }
 
-// The refusal by a number of the list above, at a place; a Cut is made by need_at.
+// The refusal by a number of the list above, at a place; where bytes are counted, a Cut is made by need_at.
 pub fn refusal_at(number: u8, place: usize) -> Refusal
     ensures { λ r. ⌜ r ≡ refusal number place ⌝ }
 {
