@@ -21,8 +21,7 @@ pub enum Kind {
     Monitoring,
 }
 
-pub const KINDS: usize = 10;
-
+// The kind of record that has this number in the order above, the last for every number above it.
 pub fn kind_at(i: usize) -> Kind
     ensures { λ r. ⌜ r ≡ kindAt i ⌝ }
 {

@@ -1,4 +1,4 @@
-// The values that BMP messages are made of, under the names that bgpkit-parser gives them.
+// The values that BMP messages are made of, under the names that bgpkit-parser gives them where it has any, and the warnings.
 ghost use mathlib.Core.Path.{_≡_};
 ghost use Rattle.models.specs.Address.{sameAddress, sameAfi, sameOctets, unspecified};
 ghost use Rattle.models.specs.Warnings.{countOnes};

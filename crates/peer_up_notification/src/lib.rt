@@ -242,7 +242,7 @@ fn message_at(s: &[u8], at: usize, size: u16) -> Open
     }
 }
 
-// Of all walks only this one goes on where exactly 4 bytes are left: a last TLV may be empty.
+// Of the walks over TLVs only this one goes on where exactly 4 bytes are left: a last TLV may be empty.
 fn step_at(s: &[u8], at: usize) -> Step
     requires { ⌜ length (now s) ≤ Number.limit ⌝ }
     ensures { λ r. ⌜ r ≡ stepAt (now (s .entry)) at ⌝ }

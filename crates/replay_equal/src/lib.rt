@@ -1,4 +1,4 @@
-// Whether two per-peer headers are equal, for the replay program (docs/REPLAY.md, "equal").
+// Whether two per-peer headers are equal, for the replay program (docs/REPLAY.md, "Output").
 use forms::Shown;
 use peer::BmpPerPeerHeader;
 use wire::Refusal;

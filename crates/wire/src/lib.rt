@@ -1,4 +1,4 @@
-// Reading bytes: what every reader of BMP shares.
+// What every reader and writer of BMP shares: the numbers of refusals, what a need of bytes gets, and views.
 ghost use mathlib.Core.Path.{_≡_};
 ghost use Prim.Native.Nat.{_-_};
 ghost use lib.ListN.{length};
