@@ -1,5 +1,5 @@
 /* The same readers, writers and lister in plain C, for bench/run: the same checks in the same order into the same records, and the fold of
-   bench/ours/lib.rt, so that the two can be compared number by number. A table is filled as far as it goes and not cleared. */
+   bench/ours/lib.rattle, so that the two can be compared number by number. A table is filled as far as it goes and not cleared. */
 #include <stddef.h>
 #include <stdint.h>
 #include <string.h>

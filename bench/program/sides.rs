@@ -1,4 +1,4 @@
-//! The two sides, ours_X of bench/ours/lib.rt and c_X of bench/walk.c, in one library that is opened by its path.
+//! The two sides, ours_X of bench/ours/lib.rattle and c_X of bench/walk.c, in one library that is opened by its path.
 
 use std::ffi::{c_char, c_int, c_void, CString};
 use std::mem::transmute;
