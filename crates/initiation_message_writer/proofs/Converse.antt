@@ -16,14 +16,13 @@ use Rattle.initiation_message.specs.Read.{reader}
 use Rattle.writing.specs.Table.{parts, joined, allOk}
 use Rattle.writing.proofs.Table.{kept-each}
 use Rattle.writing.proofs.Trip.{table-back}
-use Rattle.tlv_table.proofs.Written.{good-fits}
+use Rattle.tlv_table.proofs.Written.{good-part, before-from}
 use Rattle.initiation_message.specs.Grammar.{Reading, join, ReadTlv, places}
 use Rattle.initiation_message.specs.Shown.{infoOf, zeroTlv, entry}
-use Rattle.initiation_message_writer.specs.Write.{valueOf, partOf, writer, kept, bytesOf, writable, SameTlv, Same}
+use Rattle.initiation_message_writer.specs.Write.{valueOf, partOf, writer, kept, bytesOf, writable, entryOf, SameTlv, Same}
 use Rattle.initiation_message.specs.declared.InitiationTlv.{InitiationTlv}
 use Rattle.initiation_message.specs.declared.InitiationMessage.{InitiationMessage}
 use Rattle.initiation_message.specs.declared.InitiationAnswer.{InitiationAnswer}
-use Rattle.initiation_message_writer.proofs.Written.{fine-from}
 use Rattle.initiation_message.proofs.Shows.{ViewAt}
 use Rattle.initiation_message_writer.proofs.Trip.{ReadsBack}
 
@@ -40,8 +39,8 @@ all-fine : (b : List ℕ) (l : List InitiationTlv) → EachGood putTlv ReadTlv (
     → ((i : ℕ) → i < length l → Inside b (getD l i zeroTlv)) → allOk writer (length b) l ≡ true
 all-fine b [] g h = refl
 all-fine b (t ∷ l) g h =
-    rw (fine-from (length b) (length l) t (record {
-      fits = good-fits _ _ (infoOf t) b (g .0 .well-formed) (h 0 (omega arith));
+    rw (before-from (length b) (length l) (entryOf t) (record {
+      alone = good-part _ _ (infoOf t) b (g .0 .well-formed) (h 0 (omega arith));
       not-last-empty = followed b t l (g .0);
     }))
     (all-fine b l (g .1) (λ i e. h (suc i) (omega arith)))

@@ -12,24 +12,24 @@ use Rattle.wire.specs.Parts.{AllAt}
 use Rattle.wire.specs.Tlv.{sizeOf}
 use Rattle.wire.proofs.Tlv.{tlv-length}
 use Rattle.writing.specs.Table.{joined, allOk}
-use Rattle.writing.proofs.Tlv.{tlv-good}
 use Rattle.writing.proofs.Table.{length-joined, all-good, length-parts, length-sizes, Kept}
 use Rattle.writing.proofs.Trip.{table-same, end-sizes}
+use Rattle.tlv_table.proofs.Written.{part-good, before-of}
 use Rattle.initiation_message.specs.Grammar.{ReadTlv, Good, places}
 use Rattle.initiation_message.specs.Shown.{zeroTlv, entry, shown}
 use Rattle.initiation_message.specs.Read.{readInitiation}
-use Rattle.initiation_message_writer.specs.Write.{partOf, tlvWritable, writer, kept, readingOf, bytesOf, SameTlv, Same}
+use Rattle.initiation_message_writer.specs.Write.{partOf, tlvWritable, writer, kept, readingOf, bytesOf, entryOf, SameTlv, Same}
 use Rattle.initiation_message.specs.declared.InitiationTlv.{InitiationTlv}
 use Rattle.initiation_message.specs.declared.InitiationMessage.{InitiationMessage}
 use Rattle.initiation_message.specs.declared.InitiationAnswer.{InitiationAnswer}
-use Rattle.initiation_message_writer.proofs.Written.{fine-of, bodied}
+use Rattle.initiation_message_writer.proofs.Written.{bodied}
 use Rattle.initiation_message.proofs.Shows.{ViewAt}
 
 read-tlv : (b : List ℕ) → Bytes b → (t : InitiationTlv) (l : List InitiationTlv) → tlvWritable (length b) (length l) t ≡ true → allOk writer (length b) l ≡ true
     → ReadTlv (partOf b t) (joined writer b l)
 read-tlv b p t l e w =
-    let f = fine-of (length b) (length l) t e in
-    let g = tlv-good _ _ _ b (f .fits) p in
+    let f = before-of (length b) (length l) (entryOf t) e in
+    let g = part-good _ _ _ b (f .alone) p in
     record {
       well-formed = g;
       more-than-four = omega (arith, tlv-length (partOf b t) (joined writer b l) g, length-joined writer bodied b l w, length-sizes writer (λ u. omega arith) l, f .not-last-empty);

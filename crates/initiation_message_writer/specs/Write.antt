@@ -9,7 +9,7 @@ use Rattle.wire.specs.Bytes.{pick}
 use Rattle.wire.specs.View.{viewed}
 use Rattle.wire.specs.Tlv.{Tlv, putTlv, short}
 use Rattle.writing.specs.Table.{Writer, parts, allOk}
-use Rattle.tlv_table.specs.Tlvs.{walkedTlvFits}
+use Rattle.tlv_table.specs.Tlvs.{entryWritableBefore}
 use Rattle.tlv_table.specs.declared.TlvValue.the-variants.{Part}
 use Rattle.tlv_table.specs.declared.TlvEntry.{TlvEntry}
 use Rattle.initiation_message.specs.Grammar.{Reading, join, places}
@@ -24,10 +24,14 @@ valueOf b t = viewed b (infoOf t)
 abbrev pub partOf : List ℕ → InitiationTlv → Tlv
 partOf b t = record { kind = t .kind; size = t .«info_len»; value = valueOf b t }
 
+-- ---- the TLV that is written for an entry
+abbrev pub entryOf : InitiationTlv → TlvEntry
+entryOf t = record { kind = t .kind; size = t .«info_len»; value = Part (infoOf t) }
+
 -- ---- a TLV is writable, by the buffer's length and the number of TLVs after it: it can be written from its view, and it is not a
 -- last one of length 0, which the reader would take for a tail
-unfoldable pub tlvWritable : ℕ → ℕ → InitiationTlv → Bool
-tlvWritable room after t = walkedTlvFits (t .kind) (t .«info_len») (infoOf t) room after
+abbrev pub tlvWritable : ℕ → ℕ → InitiationTlv → Bool
+tlvWritable room after t = entryWritableBefore room after (entryOf t)
 
 abbrev pub writer : Writer
 writer =
@@ -52,10 +56,6 @@ bytesOf m b = join (readingOf m b)
 
 abbrev pub writable : InitiationMessage → ℕ → Bool
 writable m room = pick (ltb places (m .count)) false (allOk writer room (kept m))
-
--- ---- the TLV that is written for an entry
-abbrev pub entryOf : InitiationTlv → TlvEntry
-entryOf t = record { kind = t .kind; size = t .«info_len»; value = Part (infoOf t) }
 
 -- ---- two records are the same: their numbers below the count, and the bytes that their views show, each in its own buffer
 pub record SameTlv (t : InitiationTlv) (b : List ℕ) (u : InitiationTlv) (s : List ℕ) : Type 0 where

@@ -18,7 +18,7 @@ use Rattle.wire.specs.Exactly.{Shows}
 use Rattle.writing.specs.Table.{parts, allOk}
 use Rattle.writing.proofs.Table.{kept-each, bytes-joined}
 use Rattle.writing.proofs.Trip.{parts-back}
-use Rattle.tlv_table.proofs.Written.{view-long, good-fits, entry-bytes}
+use Rattle.tlv_table.proofs.Written.{view-long, good-part, entry-bytes}
 use Rattle.addresses.specs.Address.{shownIp}
 use Rattle.models.specs.declared.IpAddr.{IpAddr}
 use Rattle.models.proofs.Promises.{equals-is-equality}
@@ -33,7 +33,7 @@ use Rattle.peer_up_notification.specs.declared.PeerUpNotification.{PeerUpNotifi
 use Rattle.peer_up_notification.specs.declared.PeerUpAnswer.{PeerUpAnswer}
 use Rattle.peer_up_notification.proofs.Address.{address-shown}
 use Rattle.peer_up_notification.proofs.Opens.{OneMessage, one-message}
-use Rattle.peer_up_notification_writer.proofs.Written.{fine-from, bodied, open-from}
+use Rattle.peer_up_notification_writer.proofs.Written.{bodied, open-from}
 use Rattle.peer_up_notification.proofs.Shows.{ViewAt, ShowsParts}
 use Rattle.peer_up_notification_writer.proofs.Trip.{ReadsBack}
 
@@ -63,7 +63,7 @@ all-fine : (b : List ℕ) (l : List PeerUpNotificationTlv) (z : List ℕ) → Ea
     → ((i : ℕ) → i < length l → Within b (infoOf (getD l i zeroTlv))) → allOk writer (length b) l ≡ true
 all-fine b [] z g h = refl
 all-fine b (t ∷ l) z g h =
-    rw (fine-from (length b) t (good-fits _ _ (infoOf t) b (g .0) (h 0 (omega arith))))
+    rw (good-part _ _ (infoOf t) b (g .0) (h 0 (omega arith)))
     (all-fine b l z (g .1) (λ i e. h (suc i) (omega arith)))
 
 -- an item that is shown as an entry is that entry's

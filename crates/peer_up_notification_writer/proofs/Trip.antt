@@ -11,9 +11,9 @@ use Rattle.wire.specs.Tlv.{sizeOf}
 use Rattle.wire.specs.View.{viewed}
 use Rattle.wire.proofs.Bytes.{bytes-drop}
 use Rattle.wire.proofs.Views.{octets-zeros}
-use Rattle.writing.proofs.Tlv.{tlv-good}
 use Rattle.writing.proofs.Table.{length-joined, all-good, length-parts}
 use Rattle.writing.proofs.Trip.{each-same, end-sizes}
+use Rattle.tlv_table.proofs.Written.{part-good}
 use Rattle.peer_type.specs.declared.BmpPeerType.{BmpPeerType}
 use Rattle.peer_up_notification.specs.Grammar.{ReadTlv, skippedFor, Good}
 use Rattle.peer_up_notification.specs.Shown.{zeroTlv, entry, tlvsAt, shown, kept}
@@ -23,7 +23,7 @@ use Rattle.peer_up_notification.specs.declared.PeerUpNotificationTlv.{PeerUpNot
 use Rattle.peer_up_notification.specs.declared.PeerUpNotification.{PeerUpNotification}
 use Rattle.peer_up_notification.specs.declared.PeerUpAnswer.{PeerUpAnswer}
 use Rattle.peer_up_notification.proofs.Opens.{open-good, open-back}
-use Rattle.peer_up_notification_writer.proofs.Written.{fine-of, bodied, one-of, Writes, length-bytes}
+use Rattle.peer_up_notification_writer.proofs.Written.{bodied, one-of, Writes, length-bytes}
 use Rattle.peer_up_notification.proofs.Shows.{address-field, ViewAt, ShowsParts}
 
 pub good-of : (m : PeerUpNotification) (b : List ℕ) → Bytes b → Typed m → Writes m b → Good (m .«local_addr» .afi) (readingOf m b)
@@ -38,7 +38,7 @@ good-of m b p t w =
       remote-port-fits = t .remote-port-fits;
       sent-good = open-good (viewed b (m .«sent_open»)) (one-of p (m .«sent_open») (w .front .sent));
       received-good = open-good (viewed b (m .«received_open»)) (one-of p (m .«received_open») (w .front .received));
-      each = all-good writer ReadTlv b (λ t l o e. tlv-good _ _ _ b (fine-of (length b) t o) p) (kept m) (w .table .fine);
+      each = all-good writer ReadTlv b (λ t l o e. part-good _ _ _ b o p) (kept m) (w .table .fine);
       tail-good = (omega arith, none);
     }
 

@@ -17,35 +17,20 @@ use Rattle.wire.proofs.Views.{inside-is, bytes-viewed}
 use Rattle.writing.specs.Table.{joined, allOk}
 use Rattle.writing.specs.Write.{putAt}
 use Rattle.writing.proofs.Sets.{sets-append, put-then, put-fits, length-put}
-use Rattle.writing.proofs.Tlv.{TlvFits, fits-of, fits-from}
 use Rattle.writing.proofs.Table.{Bodied, Kept, kept-of}
-use Rattle.tlv_table.specs.Tlvs.{entryWritable, oneTlv}
+use Rattle.tlv_table.specs.Tlvs.{oneTlv}
 use Rattle.tlv_table.proofs.Written.{view-long, entry-long}
 use Rattle.addresses.specs.Address.{shownIp}
 use Rattle.models.specs.declared.IpAddr.{IpAddr}
 use Rattle.models.proofs.Promises.{equals-is-equality}
 use Rattle.peer_up_notification.specs.Grammar.{messageBytes, skippedFor, places}
-use Rattle.peer_up_notification.specs.Shown.{infoOf, shownAddress, kept}
+use Rattle.peer_up_notification.specs.Shown.{shownAddress, kept}
 use Rattle.peer_up_notification.specs.Told.{openOf}
-use Rattle.peer_up_notification_writer.specs.Write.{addressWritable, openWritable, tlvWritable, writer, bytesOf, tlvsWritable, frontWritable, writable, endpointBytes, openBytes, frontBytes, frontLength, entryOf}
+use Rattle.peer_up_notification_writer.specs.Write.{addressWritable, openWritable, writer, bytesOf, tlvsWritable, frontWritable, writable, endpointBytes, openBytes, frontBytes, frontLength, entryOf}
 use Rattle.peer_up_notification.specs.declared.PeerUpNotificationTlv.{PeerUpNotificationTlv}
 use Rattle.peer_up_notification.specs.declared.PeerUpNotification.{PeerUpNotification}
 use Rattle.peer_up_notification.proofs.Address.{address-shown}
 use Rattle.peer_up_notification.proofs.Opens.{OneMessage, open-back}
-
--- ---- one TLV
-pub fine-of : (bufferLength : ℕ) (t : PeerUpNotificationTlv) → tlvWritable bufferLength t ≡ true → TlvFits (t .kind) (t .«info_len») (infoOf t) bufferLength
-unfolding tlvWritable
-fine-of bufferLength t e = fits-of _ _ _ _ e
-
-pub fine-from : (bufferLength : ℕ) (t : PeerUpNotificationTlv) → TlvFits (t .kind) (t .«info_len») (infoOf t) bufferLength → tlvWritable bufferLength t ≡ true
-unfolding tlvWritable
-fine-from bufferLength t f = fits-from _ _ _ _ f
-
--- the entry of a TLV is judged as it is
-pub ok-same : (bufferLength : ℕ) (t : PeerUpNotificationTlv) → entryWritable bufferLength (entryOf t) ≡ tlvWritable bufferLength t
-unfolding tlvWritable entryWritable
-ok-same bufferLength t = refl
 
 -- ---- the bytes of one TLV alone, as the kit wants them
 abbrev pub oneOf : List ℕ → PeerUpNotificationTlv → List ℕ
@@ -53,7 +38,7 @@ oneOf b t = oneTlv b (entryOf t)
 
 pub bodied : Bodied writer oneOf
 unfolding be
-bodied = record { put-is = λ b t r. refl; length-is = λ b n t e. entry-long b (entryOf t) (ok-same (length b) t ∙ e) }
+bodied = record { put-is = λ b t r. refl; length-is = λ b n t e. entry-long b (entryOf t) e }
 
 -- ---- a BGP message
 pub record FineOpen (b : List ℕ) (v : View) : Type 0 where

@@ -1,5 +1,5 @@
 -- What the writer writes: the reading of a record, by the grammar's own parts; which records are writable; when two are the same.
-use Prim.Native.Nat.{ℕ, _+_, _-_, _^_, _<_}
+use Prim.Native.Nat.{ℕ, _+_, _^_, _<_}
 use mathlib.Core.Path.{_≡_}
 use mathlib.Core.Bool.{Bool, false, _&&_}
 use mathlib.Core.List.{List, [], _++_}
@@ -9,8 +9,8 @@ use Rattle.wire.specs.Bytes.{pick, be, numAt, Octets}
 use Rattle.wire.specs.View.{inside, viewed}
 use Rattle.wire.specs.Tlv.{Tlv, putTlv}
 use Rattle.wire.specs.declared.View.{View}
-use Rattle.writing.specs.Write.{tlvFits}
 use Rattle.writing.specs.Table.{Writer, parts, allOk}
+use Rattle.tlv_table.specs.Tlvs.{entryWritable}
 use Rattle.tlv_table.specs.declared.TlvValue.the-variants.{Part}
 use Rattle.tlv_table.specs.declared.TlvEntry.{TlvEntry}
 use Rattle.addresses.specs.Address.{shownIp}
@@ -35,9 +35,12 @@ unfoldable pub openWritable : List ℕ → View → Bool
 openWritable b v =
     inside (length b) v && (leb 19 (v .length) && (ltb (v .length) (256 ^ 2) && eqb (numAt 2 (viewed b v) 16) (v .length)))
 
--- ---- a TLV is writable, by the buffer's length, where it can be written from its view
-unfoldable pub tlvWritable : ℕ → PeerUpNotificationTlv → Bool
-tlvWritable bufferLength t = tlvFits (t .kind) (t .«info_len») (infoOf t) bufferLength
+-- ---- the TLV that is written for an entry, which is writable, by the buffer's length, where it can be written from its view
+abbrev pub entryOf : PeerUpNotificationTlv → TlvEntry
+entryOf t = record { kind = t .kind; size = t .«info_len»; value = Part (infoOf t) }
+
+abbrev pub tlvWritable : ℕ → PeerUpNotificationTlv → Bool
+tlvWritable bufferLength t = entryWritable bufferLength (entryOf t)
 
 abbrev pub writer : Writer
 writer =
@@ -91,10 +94,6 @@ frontBytes m b = endpointBytes (m .«local_addr») (m .«local_port») (m .«rem
 
 abbrev pub frontLength : PeerUpNotification → ℕ
 frontLength m = 20 + (m .«sent_open» .length + m .«received_open» .length)
-
--- ---- the TLV that is written for an entry
-abbrev pub entryOf : PeerUpNotificationTlv → TlvEntry
-entryOf t = record { kind = t .kind; size = t .«info_len»; value = Part (infoOf t) }
 
 -- ---- what the types of its fields say of every record
 pub record Typed (m : PeerUpNotification) : Type 0 where

@@ -13,7 +13,7 @@ use Rattle.route_mirroring.specs.Read.{reader}
 use Rattle.writing.specs.Table.{parts, joined, allOk}
 use Rattle.writing.proofs.Table.{kept-each}
 use Rattle.writing.proofs.Trip.{table-back}
-use Rattle.tlv_table.proofs.Written.{good-fits}
+use Rattle.tlv_table.proofs.Written.{good-part}
 use Rattle.route_mirroring.specs.Grammar.{Tlv, bgpMessage, information, put, Reading, join, ReadTlv, places, sizeOf}
 use Rattle.route_mirroring.specs.Shown.{valueOf, zeroTlv, entry}
 use Rattle.route_mirroring_writer.specs.Write.{valuePart, partOf, writer, kept, bytesOf, writable, SameTlv, Same}
@@ -63,7 +63,7 @@ same-known t b u s e h =
 fine-value : (b : List ℕ) (size : ℕ) (x : RouteMirroringValue) (r : List ℕ) → ReadTlv (valuePart b size x) r → InsideValue b x → LengthTwo size x
     → FineValue (length b) size x
 fine-value b size (BgpMessage v) r g inside two =
-    record { fits = good-fits 0 size v b (g .well-formed) inside; has-header = g .has-header }
+    record { fits = good-part 0 size v b (g .well-formed) inside; has-header = g .has-header }
 fine-value b size (Information i) r g inside two = two
 
 -- what all-fine asks of an entry beside its item

@@ -10,9 +10,9 @@ use Rattle.wire.specs.Number as Number
 use Rattle.wire.specs.Bytes.{Bytes, none}
 use Rattle.wire.specs.Parts.{AllAt}
 use Rattle.writing.specs.Table.{allOk}
-use Rattle.writing.proofs.Tlv.{tlv-good}
 use Rattle.writing.proofs.Table.{all-good, length-parts, length-joined, Kept}
 use Rattle.writing.proofs.Trip.{table-same, end-sizes}
+use Rattle.tlv_table.proofs.Written.{part-good}
 use Rattle.route_mirroring.specs.Grammar.{ReadTlv, Good, places, sizeOf}
 use Rattle.route_mirroring.specs.Shown.{codeOf, valueOf, zeroTlv, entry, shown}
 use Rattle.route_mirroring.specs.Read.{readMirroring}
@@ -32,7 +32,7 @@ info-known ErroredPdu = omega arith
 info-known MessageLost = omega arith
 
 read-value : (b : List ℕ) → Bytes b → (size : ℕ) (x : RouteMirroringValue) (r : List ℕ) → FineValue (length b) size x → ReadTlv (valuePart b size x) r
-read-value b p size (BgpMessage v) r f = record { well-formed = tlv-good _ _ _ b (f .fits) p; has-header = f .has-header }
+read-value b p size (BgpMessage v) r f = record { well-formed = part-good 0 size v b (f .fits) p; has-header = f .has-header }
 read-value b p size (Information i) r f = record { size-fits = omega (arith, f); known = info-known i }
 
 pub good-of : (m : RouteMirroring) (b : List ℕ) → Bytes b → allOk writer (length b) (kept m) ≡ true → Good (readingOf m b)

@@ -14,15 +14,15 @@ use Rattle.wire.specs.Bytes.{pick, be}
 use Rattle.wire.specs.Parts.{joinAll}
 use Rattle.wire.proofs.Walk as Walk
 use Rattle.wire.specs.declared.View.{View}
-use Rattle.writing.specs.Write.{tlvFits}
-use Rattle.writing.proofs.Tlv.{TlvFits, fits-of, fits-from}
+use Rattle.writing.proofs.Tests.{both}
 use Rattle.writing.proofs.Table.{Bodied}
 use Rattle.tlv_table.specs.Tlvs.{entryWritable, oneTlv}
+use Rattle.tlv_table.specs.declared.TlvValue.the-variants.{Part}
 use Rattle.tlv_table.specs.declared.TlvEntry.{TlvEntry}
 use Rattle.tlv_table.proofs.Written.{entry-long}
 use Rattle.route_mirroring.specs.Grammar.{Tlv, bgpMessage, information, put, places}
 use Rattle.route_mirroring.specs.Shown.{valueOf}
-use Rattle.route_mirroring_writer.specs.Write.{valuePart, known, valueWritable, tlvWritable, writer, valueEntry, entryOf, hasHeader}
+use Rattle.route_mirroring_writer.specs.Write.{valuePart, known, hasHeader, headedWritable, tlvWritable, writer, valueEntry, entryOf}
 use Rattle.route_mirroring.specs.declared.RouteMirroringValue.{RouteMirroringValue}
 use Rattle.route_mirroring.specs.declared.RouteMirroringValue.the-variants.{BgpMessage, Information}
 use Rattle.route_mirroring.specs.declared.RouteMirroringTlv.{RouteMirroringTlv}
@@ -40,7 +40,7 @@ pub record Known (kind number : ℕ) : Type 0 where
   pub code-known : 0 < kind → number ≤ 1
 
 pub record FineMessage (room size : ℕ) (v : View) : Type 0 where
-  pub fits : TlvFits 0 size v room
+  pub fits : entryWritable room (record { kind = 0; size = size; value = Part v }) ≡ true
   pub has-header : 19 ≤ size
 
 abbrev pub FineValue : ℕ → ℕ → RouteMirroringValue → Type 0
@@ -69,26 +69,21 @@ known-from zero size number h = refl
 known-from (suc zero) size number h = le-leb number 1 (h .code-known (omega arith))
 known-from (suc (suc k)) size number h = absurd (omega (arith, h .kind-known))
 
-value-of : (room size : ℕ) (x : RouteMirroringValue) → valueWritable room size x ≡ true → FineValue room size x
-value-of room size (BgpMessage v) e = go (leb 19 size) refl e
-  where
-    go : (a : Bool) → leb 19 size ≡ a → pick a (tlvFits 0 size v room) false ≡ true → FineMessage room size v
-    go true h q = record { fits = fits-of _ _ _ _ q; has-header = leb-true 19 size h }
-    go false h q = let z : _≡_ {A = ℕ} 0 1 = cc in absurd (omega arith)
+value-of : (room size : ℕ) (x : RouteMirroringValue) → headedWritable room (valueEntry size x) ≡ true → FineValue room size x
+unfolding entryWritable
+value-of room size (BgpMessage v) e =
+    let h = both (leb 19 size) _ e in
+    record { fits = h .1; has-header = leb-true 19 size (h .0) }
 value-of room size (Information i) e = eqb-true size 2 e
 
-value-from : (room size : ℕ) (x : RouteMirroringValue) → FineValue room size x → valueWritable room size x ≡ true
-value-from room size (BgpMessage v) f = rw (le-leb 19 size (f .has-header)) (fits-from _ _ _ _ (f .fits))
+value-from : (room size : ℕ) (x : RouteMirroringValue) → FineValue room size x → headedWritable room (valueEntry size x) ≡ true
+unfolding entryWritable
+value-from room size (BgpMessage v) f = rw (le-leb 19 size (f .has-header)) (f .fits)
 value-from room size (Information i) f = eq-eqb size 2 f
 
-both-of : (room : ℕ) (t : RouteMirroringTlv) → tlvWritable room t ≡ true → (known t ≡ true) × (valueWritable room (t .«info_len») (valueOf t) ≡ true)
+both-of : (room : ℕ) (t : RouteMirroringTlv) → tlvWritable room t ≡ true → (known t ≡ true) × (headedWritable room (entryOf t) ≡ true)
 unfolding tlvWritable
-both-of room t e = go (known t) refl e
-  where
-    go : (a : Bool) → known t ≡ a → pick a (valueWritable room (t .«info_len») (valueOf t)) false ≡ true
-        → (known t ≡ true) × (valueWritable room (t .«info_len») (valueOf t) ≡ true)
-    go true h q = (h, q)
-    go false h q = let z : _≡_ {A = ℕ} 0 1 = cc in absurd (omega arith)
+both-of room t e = both (known t) (headedWritable room (entryOf t)) e
 
 pub fine-of : (room : ℕ) (t : RouteMirroringTlv) → tlvWritable room t ≡ true → Fine room t
 fine-of room t e =
@@ -100,25 +95,10 @@ unfolding tlvWritable
 fine-from room t f =
     rw (known-from (t .kind) (t .«info_len») (t .number) (f .is-known)) (value-from room (t .«info_len») (valueOf t) (f .fine-value))
 
--- ---- what is written for one TLV is that TLV, and is writable where its value is
-ok-same : (room size : ℕ) (x : RouteMirroringValue)
-    → pick (hasHeader (valueEntry size x .size) (valueEntry size x .value)) (entryWritable room (valueEntry size x)) false ≡ valueWritable room size x
-unfolding entryWritable
-ok-same room size (BgpMessage v) = refl
-ok-same room size (Information i) = refl
-
--- so its entry decides, where type and code are known
-pub entry-decides : (room : ℕ) (t : RouteMirroringTlv) (e : TlvEntry) → known t ≡ true → e ≡ entryOf t
-    → pick (hasHeader (e .size) (e .value)) (entryWritable room e) false ≡ tlvWritable room t
+-- where type and code are known, the entry decides
+pub entry-decides : (room : ℕ) (t : RouteMirroringTlv) (e : TlvEntry) → known t ≡ true → e ≡ entryOf t → headedWritable room e ≡ tlvWritable room t
 unfolding tlvWritable
-entry-decides room t e k p =
-    ap (λ (x : TlvEntry). pick (hasHeader (x .size) (x .value)) (entryWritable room x) false) p ∙ ok-same room (t .«info_len») (valueOf t)
-    ∙ ap (λ (a : Bool). pick a (valueWritable room (t .«info_len») (valueOf t)) false) (sym k)
-
-entry-ok : (room size : ℕ) (x : RouteMirroringValue) → valueWritable room size x ≡ true → entryWritable room (valueEntry size x) ≡ true
-unfolding entryWritable
-entry-ok room size (BgpMessage v) e = fits-from _ _ _ _ (value-of room size (BgpMessage v) e .fits)
-entry-ok room size (Information i) e = e
+entry-decides room t e k p = ap (headedWritable room) p ∙ ap (λ (a : Bool). pick a (headedWritable room (entryOf t)) false) (sym k)
 
 value-size : (size : ℕ) (x : RouteMirroringValue) → valueEntry size x .size ≡ size
 value-size size (BgpMessage v) = refl
@@ -141,7 +121,7 @@ bodied =
     record {
       put-is = λ b t r. put-same b (t .«info_len») (valueOf t) r;
       length-is = λ b n t e.
-          entry-long b (entryOf t) (entry-ok (length b) (t .«info_len») (valueOf t) (both-of (length b) t e .1))
+          entry-long b (entryOf t) (both (hasHeader (entryOf t .size) (entryOf t .value)) _ (both-of (length b) t e .1) .1)
           ∙ size-same t;
     }
 

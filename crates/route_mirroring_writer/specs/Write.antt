@@ -7,8 +7,8 @@ use lib.ListN.{take, getD}
 use lib.Dec.{leb, ltb, eqb}
 use Rattle.wire.specs.Bytes.{pick}
 use Rattle.wire.specs.View.{viewed}
-use Rattle.writing.specs.Write.{tlvFits}
 use Rattle.writing.specs.Table.{Writer, parts, allOk}
+use Rattle.tlv_table.specs.Tlvs.{entryWritable}
 use Rattle.tlv_table.specs.declared.TlvValue.{TlvValue}
 use Rattle.tlv_table.specs.declared.TlvValue.the-variants.{Part, Number}
 use Rattle.tlv_table.specs.declared.TlvEntry.{TlvEntry}
@@ -27,6 +27,14 @@ valuePart b size (Information i) = information size (codeOf i)
 abbrev pub partOf : List ℕ → RouteMirroringTlv → Tlv
 partOf b t = valuePart b (t .«info_len») (valueOf t)
 
+-- ---- the TLV that is written for an entry
+abbrev pub valueEntry : ℕ → RouteMirroringValue → TlvEntry
+valueEntry size (BgpMessage v) = record { kind = 0; size = size; value = Part v }
+valueEntry size (Information i) = record { kind = 1; size = size; value = Number (codeOf i) }
+
+abbrev pub entryOf : RouteMirroringTlv → TlvEntry
+entryOf t = valueEntry (t .«info_len») (valueOf t)
+
 -- ---- a TLV is writable, by the buffer's length: a BGP message of at least 19 bytes that can be written from its view, or
 -- information of length 2 with code 0 or 1. Not writable is
 --
@@ -36,12 +44,16 @@ partOf b t = valuePart b (t .«info_len») (valueOf t)
 abbrev pub known : RouteMirroringTlv → Bool
 known t = pick (eqb (t .kind) 0) true (pick (eqb (t .kind) 1) (leb (t .number) 1) false)
 
-abbrev pub valueWritable : ℕ → ℕ → RouteMirroringValue → Bool
-valueWritable room size (BgpMessage v) = pick (leb 19 size) (tlvFits 0 size v room) false
-valueWritable room size (Information i) = eqb size 2
+-- an entry that is writable and, where it is a part, has at least 19 bytes
+abbrev pub hasHeader : ℕ → TlvValue → Bool
+hasHeader size (Part v) = leb 19 size
+hasHeader size (Number n) = true
+
+abbrev pub headedWritable : ℕ → TlvEntry → Bool
+headedWritable room e = pick (hasHeader (e .size) (e .value)) (entryWritable room e) false
 
 unfoldable pub tlvWritable : ℕ → RouteMirroringTlv → Bool
-tlvWritable room t = pick (known t) (valueWritable room (t .«info_len») (valueOf t)) false
+tlvWritable room t = pick (known t) (headedWritable room (entryOf t)) false
 
 abbrev pub writer : Writer
 writer =
@@ -66,19 +78,6 @@ bytesOf m b = join (readingOf m b)
 
 abbrev pub writable : RouteMirroring → ℕ → Bool
 writable m room = pick (ltb places (m .count)) false (allOk writer room (kept m))
-
--- ---- the TLV that is written for an entry
-abbrev pub valueEntry : ℕ → RouteMirroringValue → TlvEntry
-valueEntry size (BgpMessage v) = record { kind = 0; size = size; value = Part v }
-valueEntry size (Information i) = record { kind = 1; size = size; value = Number (codeOf i) }
-
-abbrev pub entryOf : RouteMirroringTlv → TlvEntry
-entryOf t = valueEntry (t .«info_len») (valueOf t)
-
--- a part of at least 19 bytes
-abbrev pub hasHeader : ℕ → TlvValue → Bool
-hasHeader size (Part v) = leb 19 size
-hasHeader size (Number n) = true
 
 -- ---- two records are the same: their numbers below the count, and the bytes that their views show, each in its own buffer
 abbrev pub SameValue : RouteMirroringValue → List ℕ → RouteMirroringValue → List ℕ → Type 0

@@ -18,7 +18,7 @@ use Rattle.termination_message.specs.Read.{reader}
 use Rattle.writing.specs.Table.{parts, joined, allOk}
 use Rattle.writing.proofs.Table.{kept-each}
 use Rattle.writing.proofs.Trip.{table-back}
-use Rattle.tlv_table.proofs.Written.{good-fits}
+use Rattle.tlv_table.proofs.Written.{good-part}
 use Rattle.termination_message.specs.Grammar.{Tlv, string, reason, put, sizeOf, ReadString, ReadTlv, Reading, join, places}
 use Rattle.termination_message.specs.Shown.{textOf, zeroTlv, entry}
 use Rattle.termination_message_writer.specs.Write.{partOf, writer, kept, bytesOf, writable, SameTlv, Same}
@@ -56,7 +56,7 @@ fine-entry b t l g q = go (eqb (t .kind) 0) refl
     go true e =
         let k = eqb-true (t .kind) 0 e in
         let h : ReadString (t .«info_len») (viewed b (textOf t)) (joined writer b l) = subst (λ (x : Tlv). ReadTlv x (joined writer b l)) (part-text b t k) g in
-        a-text k (record { fits = good-fits 0 (t .«info_len») (textOf t) b (h .well-formed) (q .inside k); not-last-empty = followed b t l h })
+        a-text k (record { alone = good-part 0 (t .«info_len») (textOf t) b (h .well-formed) (q .inside k); not-last-empty = followed b t l h })
     go false e =
         let k = eqb-false (t .kind) 0 e in
         let h : ReadTlv (reason (t .«info_len») (t .number)) (joined writer b l) = subst (λ (x : Tlv). ReadTlv x (joined writer b l)) (part-code b t k) g in

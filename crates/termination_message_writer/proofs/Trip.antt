@@ -12,9 +12,9 @@ use Rattle.wire.specs.View.{viewed, view}
 use Rattle.wire.specs.Parts.{AllAt}
 use Rattle.wire.proofs.Tlv.{tlv-length}
 use Rattle.writing.specs.Table.{joined, allOk}
-use Rattle.writing.proofs.Tlv.{tlv-good}
 use Rattle.writing.proofs.Table.{all-good, length-parts, length-sizes, length-joined, Kept}
 use Rattle.writing.proofs.Trip.{table-same, end-sizes}
+use Rattle.tlv_table.proofs.Written.{part-good}
 use Rattle.termination_message.specs.Grammar.{Tlv, sizeOf, ReadTlv, Good, places}
 use Rattle.termination_message.specs.Shown.{textOf, zeroTlv, entry, shown}
 use Rattle.termination_message.specs.Read.{readTermination}
@@ -32,7 +32,7 @@ coded t k z = omega arith
 -- ---- the reading of a writable record is good
 read-fine : (b : List ℕ) → Bytes b → (after : ℕ) (t : TerminationTlv) (r : List ℕ) → after ≤ length r → Fine (length b) after t → ReadTlv (partOf b t) r
 read-fine b p after t r h (a-text k f) =
-    let g = tlv-good 0 (t .«info_len») (textOf t) b (f .fits) p in
+    let g = part-good 0 (t .«info_len») (textOf t) b (f .alone) p in
     subst (λ (x : Tlv). ReadTlv x r) (sym (part-text b t k))
     (record { well-formed = g; more-than-four = omega (arith, tlv-length _ r g, f .not-last-empty, h) })
 read-fine b p after t r h (a-code k s v) =

@@ -17,10 +17,10 @@ use Rattle.wire.proofs.Views.{bytes-viewed}
 use Rattle.wire.proofs.Tlv.{put-tlv-long, coded-length}
 use Rattle.writing.specs.Table.{joined}
 use Rattle.writing.proofs.Table.{Bodied}
-use Rattle.tlv_table.specs.Tlvs.{walkedTlvFits, entryWritable, entryWritableBefore, oneTlv}
+use Rattle.tlv_table.specs.Tlvs.{entryWritable, entryWritableBefore, oneTlv}
 use Rattle.tlv_table.specs.declared.TlvValue.the-variants.{Part, Number}
-use Rattle.tlv_table.proofs.Written.{entry-long, writable-before}
-use Rattle.tlv_table.proofs.Walked.{WalkedTlvFits, walked-of, walked-from}
+use Rattle.tlv_table.specs.declared.TlvEntry.{TlvEntry}
+use Rattle.tlv_table.proofs.Written.{entry-long, Before, before-of, before-from}
 use Rattle.termination_message.specs.Grammar.{Tlv, string, reason, put, places}
 use Rattle.termination_message.specs.Shown.{textOf}
 use Rattle.termination_message_writer.specs.Write.{partOf, tlvWritable, writer, entryOf}
@@ -41,8 +41,11 @@ pub part-code : (b : List ℕ) (t : TerminationTlv) → (t .kind ≡ 0 → ⊥) 
 part-code b t k = rw (ne-eqb (t .kind) 0 k)
 
 -- ---- what `tlvWritable` asks
+abbrev pub textEntry : TerminationTlv → TlvEntry
+textEntry t = record { kind = 0; size = t .«info_len»; value = Part (textOf t) }
+
 pub data Fine (room after : ℕ) (t : TerminationTlv) : Type 0 where
-  a-text : t .kind ≡ 0 → WalkedTlvFits 0 (t .«info_len») (textOf t) room after → Fine room after t
+  a-text : t .kind ≡ 0 → Before room after (textEntry t) → Fine room after t
   a-code : t .kind ≡ 1 → t .«info_len» ≡ 2 → t .number ≤ 4 → Fine room after t
 
 pub fine-of : (room after : ℕ) (t : TerminationTlv) → tlvWritable room after t ≡ true → Fine room after t
@@ -53,8 +56,8 @@ fine-of room after t e = go (eqb (t .kind) 0) refl (ltb 1 (t .kind)) refl (eqb (
     no q = let z : _≡_ {A = ℕ} 0 1 = cc in absurd (omega arith)
 
     go : (a : Bool) → eqb (t .kind) 0 ≡ a → (d : Bool) → ltb 1 (t .kind) ≡ d → (f : Bool) → eqb (t .«info_len») 2 ≡ f
-        → pick a (walkedTlvFits 0 (t .«info_len») (textOf t) room after) (pick d false (pick f (leb (t .number) 4) false)) ≡ true → Fine room after t
-    go true ha d hd f hf q = a-text (eqb-true (t .kind) 0 ha) (walked-of _ _ _ _ _ q)
+        → pick a (entryWritableBefore room after (record { kind = pick a 0 1; size = t .«info_len»; value = pick a (Part (textOf t)) (Number (t .number % 65536)) })) (pick d false (pick f (leb (t .number) 4) false)) ≡ true → Fine room after t
+    go true ha d hd f hf q = a-text (eqb-true (t .kind) 0 ha) (before-of room after (textEntry t) q)
     go false ha true hd f hf q = no q
     go false ha false hd false hf q = no q
     go false ha false hd true hf q =
@@ -64,18 +67,18 @@ fine-of room after t e = go (eqb (t .kind) 0) refl (ltb 1 (t .kind)) refl (eqb (
 
 pub fine-from : (room after : ℕ) (t : TerminationTlv) → Fine room after t → tlvWritable room after t ≡ true
 unfolding tlvWritable
-fine-from room after t (a-text k f) = rw (eq-eqb (t .kind) 0 k) (walked-from _ _ _ _ _ f)
+fine-from room after t (a-text k f) = rw (eq-eqb (t .kind) 0 k) (before-from room after (textEntry t) f)
 fine-from room after t (a-code k s v) =
     rw (ne-eqb (t .kind) 0 (λ z. omega arith), le-ltb 1 (t .kind) (omega arith), eq-eqb (t .«info_len») 2 s) (le-leb (t .number) 4 v)
 
 -- ---- the entry of a String is judged as it is, and that of a Reason is writable where it is
 pub text-ok : (room after : ℕ) (t : TerminationTlv) → t .kind ≡ 0 → entryWritableBefore room after (entryOf t) ≡ tlvWritable room after t
-unfolding tlvWritable walkedTlvFits entryWritable entryWritableBefore
+unfolding tlvWritable
 text-ok room after t k = rw (eq-eqb (t .kind) 0 k)
 
 entry-ok : (room after : ℕ) (t : TerminationTlv) → Fine room after t → entryWritable room (entryOf t) ≡ true
 unfolding entryWritable
-entry-ok room after t (a-text k f) = writable-before room after (entryOf t) (text-ok room after t k ∙ fine-from room after t (a-text k f))
+entry-ok room after t (a-text k f) = rw (eq-eqb (t .kind) 0 k) (f .alone)
 entry-ok room after t (a-code k s v) = rw (ne-eqb (t .kind) 0 (λ z. omega arith)) (eq-eqb (t .«info_len») 2 s)
 
 -- ---- the bytes of one TLV alone, as the kit wants them

@@ -9,7 +9,7 @@ use Rattle.wire.specs.Bytes.{pick}
 use Rattle.wire.specs.View.{viewed}
 use Rattle.wire.specs.Tlv.{short}
 use Rattle.writing.specs.Table.{Writer, parts, allOk}
-use Rattle.tlv_table.specs.Tlvs.{walkedTlvFits}
+use Rattle.tlv_table.specs.Tlvs.{entryWritableBefore}
 use Rattle.tlv_table.specs.declared.TlvValue.the-variants.{Part, Number}
 use Rattle.tlv_table.specs.declared.TlvEntry.{TlvEntry}
 use Rattle.termination_message.specs.Grammar.{Tlv, string, reason, put, Reading, join, places}
@@ -20,6 +20,15 @@ use Rattle.termination_message.specs.declared.TerminationMessage.{TerminationMe
 -- ---- the reading of a record whose views point into a buffer: type 0 is a String, every other a Reason
 abbrev pub partOf : List ℕ → TerminationTlv → Tlv
 partOf b t = pick (eqb (t .kind) 0) (string (t .«info_len») (viewed b (textOf t))) (reason (t .«info_len») (t .number))
+
+-- ---- the TLV that is written for an entry
+abbrev pub entryOf : TerminationTlv → TlvEntry
+entryOf t =
+    record {
+      kind = pick (eqb (t .kind) 0) 0 1;
+      size = t .«info_len»;
+      value = pick (eqb (t .kind) 0) (Part (textOf t)) (Number (t .number % 65536));
+    }
 
 -- ---- a TLV is writable, by the buffer's length and the number of TLVs after it. Not writable, and refused with 12 (BadField):
 --
@@ -33,7 +42,7 @@ abbrev pub reasonWritable : TerminationTlv → Bool
 reasonWritable t = pick (ltb 1 (t .kind)) false (pick (eqb (t .«info_len») 2) (leb (t .number) 4) false)
 
 unfoldable pub tlvWritable : ℕ → ℕ → TerminationTlv → Bool
-tlvWritable room after t = pick (eqb (t .kind) 0) (walkedTlvFits 0 (t .«info_len») (textOf t) room after) (reasonWritable t)
+tlvWritable room after t = pick (eqb (t .kind) 0) (entryWritableBefore room after (entryOf t)) (reasonWritable t)
 
 abbrev pub writer : Writer
 writer =
@@ -58,15 +67,6 @@ bytesOf m b = join (readingOf m b)
 
 abbrev pub writable : TerminationMessage → ℕ → Bool
 writable m room = pick (ltb places (m .count)) false (allOk writer room (kept m))
-
--- ---- the TLV that is written for an entry
-abbrev pub entryOf : TerminationTlv → TlvEntry
-entryOf t =
-    record {
-      kind = pick (eqb (t .kind) 0) 0 1;
-      size = t .«info_len»;
-      value = pick (eqb (t .kind) 0) (Part (textOf t)) (Number (t .number % 65536));
-    }
 
 -- ---- two records are the same: their numbers below the count, and the bytes that their views show, each in its own buffer
 pub record SameTlv (t : TerminationTlv) (b : List ℕ) (u : TerminationTlv) (s : List ℕ) : Type 0 where

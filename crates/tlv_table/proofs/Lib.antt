@@ -1,3 +1,2 @@
-pub mod Walked
 pub mod Written
 pub mod Promises

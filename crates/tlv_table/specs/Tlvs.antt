@@ -5,7 +5,6 @@ use mathlib.Core.List.{List}
 use lib.Dec.{ltb, eqb}
 use Rattle.wire.specs.Bytes.{pick, be}
 use Rattle.wire.specs.View.{viewed}
-use Rattle.wire.specs.declared.View.{View}
 use Rattle.writing.specs.Write.{tlvBytes, tlvFits}
 use Rattle.tlv_table.specs.declared.TlvValue.{TlvValue}
 use Rattle.tlv_table.specs.declared.TlvValue.the-variants.{Part, Number}
@@ -23,10 +22,6 @@ entryWritable bufferLength t = valueWritable bufferLength (t .kind) (t .size) (t
 -- which the reader would take for a tail
 unfoldable pub entryWritableBefore : ℕ → ℕ → TlvEntry → Bool
 entryWritableBefore bufferLength after t = pick (entryWritable bufferLength t) (pick (ltb 0 (t .size)) true (ltb 0 after)) false
-
--- the same of a TLV that is written from a view
-unfoldable pub walkedTlvFits : ℕ → ℕ → View → ℕ → ℕ → Bool
-walkedTlvFits kind size v bufferLength after = pick (tlvFits kind size v bufferLength) (pick (ltb 0 size) true (ltb 0 after)) false
 
 -- ---- the bytes of an entry whose view points into a buffer
 abbrev pub valueBytes : List ℕ → TlvValue → List ℕ

@@ -1,7 +1,7 @@
 -- The laws of writing a table, proved once for every kind: the entry at i, and the bytes of writable entries. Assumes nothing.
 use mathlib.Core.Path.{_≡_, refl, sym, ap, _∙_, subst}
 use mathlib.Core.List.{List, [], _∷_, _++_}
-use mathlib.Core.Bool.{Bool, true, false}
+use mathlib.Core.Bool.{true, false}
 use Prim.Native.Nat.{ℕ, suc, _+_, _-_, _≤_, _<_}
 use native.Mathlib.Omega.{arith}
 use native.Mathlib.Numerals.{add-one}
@@ -13,6 +13,7 @@ use Rattle.wire.specs.Bytes.{pick, Bytes, none}
 use Rattle.wire.specs.Parts.{EachGood}
 use Rattle.wire.proofs.Bytes.{bytes-append}
 use Rattle.writing.specs.Table.{Writer, parts, joined, allOk, sizes}
+use Rattle.writing.proofs.Tests.{both, past}
 
 -- ---- the entry at i of the first n, and what follows it
 pub record At {A : Type 0} (table : List A) (n i : ℕ) (t : A) : Type 0 where
@@ -44,11 +45,7 @@ kept-each P table n d each i h = subst (P i) (sym (kept-at table n i d h)) (each
 
 module _ (W : Writer) where
   pub ok-head : (bufferLength : ℕ) (t : W .Entry) (l : List (W .Entry)) → allOk W bufferLength (t ∷ l) ≡ true → (W .ok bufferLength (length l) t ≡ true) × (allOk W bufferLength l ≡ true)
-  ok-head bufferLength t l e = go (W .ok bufferLength (length l) t) refl e
-    where
-      go : (c : Bool) → W .ok bufferLength (length l) t ≡ c → pick c (allOk W bufferLength l) false ≡ true → (W .ok bufferLength (length l) t ≡ true) × (allOk W bufferLength l ≡ true)
-      go true h q = (h, q)
-      go false h q = let z : _≡_ {A = ℕ} 0 1 = cc in absurd (omega arith)
+  ok-head bufferLength t l e = both (W .ok bufferLength (length l) t) (allOk W bufferLength l) e
 
   -- ---- what a body proves: the bytes of one entry alone, and how many
   pub record Bodied (one : List ℕ → W .Entry → List ℕ) : Type 0 where
@@ -85,11 +82,9 @@ module _ (W : Writer) where
 
   pub kept-of : (places n : ℕ) (table : List (W .Entry)) (bufferLength : ℕ) → pick (ltb places n) false (allOk W bufferLength (take n table)) ≡ true
       → Kept places n table bufferLength
-  kept-of places n table bufferLength e = go (ltb places n) refl e
-    where
-      go : (c : Bool) → ltb places n ≡ c → pick c false (allOk W bufferLength (take n table)) ≡ true → Kept places n table bufferLength
-      go true h q = let z : _≡_ {A = ℕ} 0 1 = cc in absurd (omega arith)
-      go false h q = record { few = ltb-false places n h; fine = q }
+  kept-of places n table bufferLength e =
+      let c = past (ltb places n) (allOk W bufferLength (take n table)) e in
+      record { few = ltb-false places n (c .0); fine = c .1 }
 
   pub length-sizes : ((t : W .Entry) → 0 < W .size t) → (l : List (W .Entry)) → length l ≤ sizes W l
   length-sizes some [] = omega arith

@@ -1,18 +1,18 @@
 -- TLVs that can be written from a view. Assumes nothing.
-use mathlib.Core.Path.{_≡_, refl, ap, _∙_}
-use mathlib.Core.Bool.{Bool, true, false}
+use mathlib.Core.Path.{_≡_, ap, _∙_}
+use mathlib.Core.Bool.{true}
 use mathlib.Core.List.{List}
 use Prim.Native.Nat.{ℕ, _+_, _^_, _≤_, _<_}
-use native.Mathlib.Omega.{arith}
 use borrow.Author.Tests.{leb-true, ltb-true, eqb-true, lt-ltb, eq-eqb}
 use lib.Dec.{ltb, eqb}
 use lib.ListN.{length}
-use Rattle.wire.specs.Bytes.{pick, Bytes}
+use Rattle.wire.specs.Bytes.{Bytes}
 use Rattle.wire.specs.View.{inside, viewed}
 use Rattle.wire.specs.Tlv.{GoodTlv}
 use Rattle.wire.specs.declared.View.{View}
 use Rattle.wire.proofs.Views.{inside-is, viewed-inside, length-part, bytes-viewed}
 use Rattle.writing.specs.Write.{tlvFits}
+use Rattle.writing.proofs.Tests.{both}
 
 pub record TlvFits (kind size : ℕ) (v : View) (bufferLength : ℕ) : Type 0 where
   pub kind-fits : kind < 256 ^ 2
@@ -22,23 +22,16 @@ pub record TlvFits (kind size : ℕ) (v : View) (bufferLength : ℕ) : Type 0 wh
 
 pub fits-of : (kind size : ℕ) (v : View) (bufferLength : ℕ) → tlvFits kind size v bufferLength ≡ true → TlvFits kind size v bufferLength
 unfolding tlvFits
-fits-of kind size v bufferLength e = go (ltb kind (256 ^ 2)) refl (ltb size (256 ^ 2)) refl (eqb (v .length) size) refl e
-  where
-    no : false ≡ true → TlvFits kind size v bufferLength
-    no q = let z : _≡_ {A = ℕ} 0 1 = cc in absurd (omega arith)
-
-    go : (a : Bool) → ltb kind (256 ^ 2) ≡ a → (b : Bool) → ltb size (256 ^ 2) ≡ b → (c : Bool) → eqb (v .length) size ≡ c
-        → pick a (pick b (pick c (inside bufferLength v) false) false) false ≡ true → TlvFits kind size v bufferLength
-    go false ha b hb c hc q = no q
-    go true ha false hb c hc q = no q
-    go true ha true hb false hc q = no q
-    go true ha true hb true hc q =
-        record {
-          kind-fits = ltb-true kind (256 ^ 2) ha;
-          size-fits = ltb-true size (256 ^ 2) hb;
-          view-is = eqb-true (v .length) size hc;
-          within = leb-true (v .place + v .length) bufferLength q;
-        }
+fits-of kind size v bufferLength e =
+    let k = both (ltb kind (256 ^ 2)) _ e in
+    let n = both (ltb size (256 ^ 2)) _ (k .1) in
+    let l = both (eqb (v .length) size) (inside bufferLength v) (n .1) in
+    record {
+      kind-fits = ltb-true kind (256 ^ 2) (k .0);
+      size-fits = ltb-true size (256 ^ 2) (n .0);
+      view-is = eqb-true (v .length) size (l .0);
+      within = leb-true (v .place + v .length) bufferLength (l .1);
+    }
 
 pub fits-from : (kind size : ℕ) (v : View) (bufferLength : ℕ) → TlvFits kind size v bufferLength → tlvFits kind size v bufferLength ≡ true
 unfolding tlvFits

@@ -15,7 +15,7 @@ use Rattle.tlv_table.proofs.Written.{length-of}
 use Rattle.initiation_message.specs.Grammar.{places}
 use Rattle.initiation_message.specs.Shown.{zeroTlv}
 use Rattle.initiation_message_writer.specs.Write.{tlvWritable, writer, bytesOf, writable}
-use Rattle.initiation_message_writer.proofs.Written.{table-long, ok-same, bodied}
+use Rattle.initiation_message_writer.proofs.Written.{table-long, bodied}
 use Rattle.initiation_message_writer.proofs.write_initiation_message.Statement.{statement}
 use Rattle.initiation_message_writer.proofs.write_initiation_message.Tie as tie
 
@@ -35,8 +35,7 @@ abbrev μ-loop2 : tie.MeasureT-loop2
 judged-so : (c : tie.After-entry-writable-before Inv-loop μ-loop Inv-loop2 μ-loop2)
     → tlvWritable (length (now (c .before .before .before .before .before .before .before .before .args .buffer))) (c .before .before .before .before .before .before .before .before .args .t1 .count - c .before .before .before .before .loop .i - 1) (getD (c .before .before .before .before .before .before .before .before .args .t1 .tlvs) (c .before .before .before .before .loop .i) zeroTlv) ≡ c .entry-writable-before .result
 judged-so c =
-    sym (ok-same (length (now (c .before .before .before .before .before .before .before .before .args .buffer))) (c .before .before .before .before .before .before .before .before .args .t1 .count - c .before .before .before .before .loop .i - 1) (getD (c .before .before .before .before .before .before .before .before .args .t1 .tlvs) (c .before .before .before .before .loop .i) zeroTlv))
-    ∙ ap (entryWritableBefore (length (now (c .before .before .before .before .before .before .before .before .args .buffer))) (c .before .before .before .before .before .before .before .before .args .t1 .count - c .before .before .before .before .loop .i - 1)) (sym (c .before .entry-of .ensures)) ∙ sym (c .entry-writable-before .ensures)
+    ap (entryWritableBefore (length (now (c .before .before .before .before .before .before .before .before .args .buffer))) (c .before .before .before .before .before .before .before .before .args .t1 .count - c .before .before .before .before .loop .i - 1)) (sym (c .before .entry-of .ensures)) ∙ sym (c .entry-writable-before .ensures)
 
 asked : (c : tie.After-write-answer3 Inv-loop μ-loop Inv-loop2 μ-loop2)
     → Asked writer (c .before .before .before .before .before .before .args .t1 .tlvs) (c .before .before .before .before .before .before .args .t1 .count) (now (c .before .before .before .before .before .before .args .buffer)) (writable (c .before .before .before .before .before .before .args .t1) (length (now (c .before .before .before .before .before .before .args .buffer)))) [] (bytesOf (c .before .before .before .before .before .before .args .t1) (now (c .before .before .before .before .before .before .args .buffer))) (now (c .before .before .before .before .before .before .args .out)) (c .before .before .loop .length) (c .write-answer3 .result)

@@ -17,7 +17,7 @@ use Rattle.tlv_table.proofs.Written.{length-of}
 use Rattle.peer_up_notification.specs.Shown.{zeroTlv}
 use Rattle.peer_up_notification.proofs.Laws.{table-long}
 use Rattle.peer_up_notification_writer.specs.Write.{writer, tlvWritable, bytesOf, writable, endpointBytes, frontBytes, Typed}
-use Rattle.peer_up_notification_writer.proofs.Written.{ok-same, bodied, FineFront, front-of, too-many, front-bad, tlvs-decide, writes-of, bytes-are, length-opens, length-front, front-put}
+use Rattle.peer_up_notification_writer.proofs.Written.{bodied, FineFront, front-of, too-many, front-bad, tlvs-decide, writes-of, bytes-are, length-opens, length-front, front-put}
 use Rattle.peer_up_notification_writer.proofs.write_peer_up_notification.Statement.{statement}
 use Rattle.peer_up_notification_writer.proofs.write_peer_up_notification.Tie as tie
 
@@ -55,8 +55,7 @@ long c = length-front (c .before .before .before .before .before .before .before
 
 judged-so : (c : tie.After-entry-writable Inv-loop μ-loop Inv-loop2 μ-loop2) → tlvWritable (length (now (c .before .before .before .before .before .before .before .before .before .before .before .before .before .before .before .args .buffer))) (getD (c .before .before .before .before .before .before .before .before .before .before .before .before .before .before .before .args .t1 .tlvs) (c .before .before .before .before .loop .i) zeroTlv) ≡ c .entry-writable .result
 judged-so c =
-    sym (ok-same (length (now (c .before .before .before .before .before .before .before .before .before .before .before .before .before .before .before .args .buffer))) (getD (c .before .before .before .before .before .before .before .before .before .before .before .before .before .before .before .args .t1 .tlvs) (c .before .before .before .before .loop .i) zeroTlv))
-    ∙ ap (entryWritable (length (now (c .before .before .before .before .before .before .before .before .before .before .before .before .before .before .before .args .buffer)))) (sym (c .before .entry-of .ensures)) ∙ sym (c .entry-writable .ensures)
+    ap (entryWritable (length (now (c .before .before .before .before .before .before .before .before .before .before .before .before .before .before .before .args .buffer)))) (sym (c .before .entry-of .ensures)) ∙ sym (c .entry-writable .ensures)
 
 asked : (c : tie.After-write-answer4 Inv-loop μ-loop Inv-loop2 μ-loop2)
     → Asked writer (c .before .before .before .before .before .before .before .before .before .before .before .before .before .args .t1 .tlvs) (c .before .before .before .before .before .before .before .before .before .before .before .before .before .args .t1 .count) (now (c .before .before .before .before .before .before .before .before .before .before .before .before .before .args .buffer)) (writable (c .before .before .before .before .before .before .before .before .before .before .before .before .before .args .t1) (now (c .before .before .before .before .before .before .before .before .before .before .before .before .before .args .buffer))) (frontBytes (c .before .before .before .before .before .before .before .before .before .before .before .before .before .args .t1) (now (c .before .before .before .before .before .before .before .before .before .before .before .before .before .args .buffer))) (bytesOf (c .before .before .before .before .before .before .before .before .before .before .before .before .before .args .t1) (now (c .before .before .before .before .before .before .before .before .before .before .before .before .before .args .buffer))) (now (c .before .before .before .before .before .before .before .before .before .before .before .before .before .args .out)) (c .before .before .loop .length) (c .write-answer4 .result)

@@ -3,9 +3,8 @@ use borrow.Author.Tests.{not-true, not-false}
 use mathlib.Core.Path.{_≡_, sym, ap, _∙_}
 use mathlib.Core.Bool.{Bool, false}
 use Rattle.wire.specs.Bytes.{pick}
-use Rattle.route_mirroring.specs.Shown.{valueOf}
 use Rattle.tlv_table.specs.Tlvs.{entryWritable}
-use Rattle.route_mirroring_writer.specs.Write.{valueWritable, tlvWritable}
+use Rattle.route_mirroring_writer.specs.Write.{headedWritable, tlvWritable, entryOf}
 use Rattle.route_mirroring_writer.proofs.Written.{entry-decides}
 use Rattle.route_mirroring_writer.proofs.tlv_writable.Statement.{statement}
 use Rattle.route_mirroring_writer.proofs.tlv_writable.Tie as tie
@@ -22,7 +21,7 @@ is-known-requires c κs = search needs
 returns : tie.Need-returns
 unfolding tlvWritable
 returns c =
-    ap (λ (a : Bool). pick a (valueWritable (c .before .before .args .buffer-length) (c .before .before .args .tlv .«info_len») (valueOf (c .before .before .args .tlv))) false)
+    ap (λ (a : Bool). pick a (headedWritable (c .before .before .args .buffer-length) (entryOf (c .before .before .args .tlv))) false)
     (sym (not-true (c .before .is-known .result) (c .if1 .taken)) ∙ c .before .is-known .ensures)
 
 entry-of-requires : tie.Need-entry-of-requires
