@@ -1,4 +1,4 @@
--- The number that stands for a type, and the flag that a family or an AS length comes from. Assumes nothing.
+-- The number that stands for a type, and the flag that an AS length comes from. Assumes nothing.
 use Prim.Native.Nat.{ℕ, zero, suc, _+_, _-_, _*_, _/_, _%_, _^_, _≤_, _<_}
 use native.Mathlib.Nat.{mod-lt}
 use native.Mathlib.Omega.{arith}
@@ -9,9 +9,8 @@ use lib.Bits.{bitAnd, and-high}
 use lib.Dec.{eqb, lit<}
 use lib.Pow.{pow-pos}
 use Rattle.wire.specs.Bytes.{pick}
-use Rattle.models.specs.declared.Afi.the-variants.{Ipv4, Ipv6}
 use Rattle.models.specs.declared.AsnLength.the-variants.{Bits16, Bits32}
-use Rattle.peer_type.specs.Peer.{kindOf, typeOf, flag, flagV, flagA, addressFamily, asnLength}
+use Rattle.peer_type.specs.Peer.{kindOf, typeOf, flag, flagA, asnLength}
 use Rattle.peer_type.specs.declared.BmpPeerType.{BmpPeerType}
 use Rattle.peer_type.specs.declared.BmpPeerType.the-variants.{Global, RD, Local, LocalRib}
 
@@ -47,12 +46,6 @@ second-told differ true e = differ e
 second-told differ false e = refl
 
 module _ (flags : ℕ) where
-  pub ipv6-flag : Ipv6 ≡ addressFamily flags → flagV flags ≡ true
-  ipv6-flag = first-told (λ e. cc) (flagV flags)
-
-  pub ipv4-flag : Ipv4 ≡ addressFamily flags → flagV flags ≡ false
-  ipv4-flag = second-told (λ e. cc) (flagV flags)
-
   pub bits16-flag : Bits16 ≡ asnLength flags → flagA flags ≡ true
   bits16-flag = first-told (λ e. cc) (flagA flags)
 

@@ -19,7 +19,6 @@ use Rattle.writing.proofs.Table.{here, done, ok-head, Bodied, length-jo
 -- i of the first n entries were judged and found good; with what stands in front of the table they take m bytes
 pub record Measured (W : Writer) (table : List (W .Entry)) (n bufferLength : ℕ) (ok : Bool) (front m i : ℕ) : Type 0 where
   pub few : n ≤ length table
-  pub below : i ≤ n
   pub small : m ≤ front + i * 65539
   pub whole : ok ≡ allOk W bufferLength (take n table)
   pub rest : ok ≡ allOk W bufferLength (drop i (take n table))
@@ -36,7 +35,6 @@ pub record Asked (W : Writer) (table : List (W .Entry)) (n : ℕ) (b : List ℕ)
 -- k of the first n entries were put, from a place of the output on: the bytes of the others, put where the writer stands, give the whole output
 pub record Placed (W : Writer) (table : List (W .Entry)) (n : ℕ) (b out₀ : List ℕ) (at₀ : ℕ) (out : List ℕ) (at k : ℕ) : Type 0 where
   pub few : n ≤ length table
-  pub below : k ≤ n
   pub fine : allOk W (length b) (drop k (take n table)) ≡ true
   pub room : at + sizes W (drop k (take n table)) ≤ length out
   pub long : length out ≡ length out₀
@@ -45,7 +43,7 @@ pub record Placed (W : Writer) (table : List (W .Entry)) (n : ℕ) (b out₀ : L
 -- ---- the first loop
 module _ {W : Writer} {table : List (W .Entry)} {n bufferLength : ℕ} {ok : Bool} {front : ℕ} where
   pub measured-starts : n ≤ length table → ok ≡ allOk W bufferLength (take n table) → Measured W table n bufferLength ok front front 0
-  measured-starts h e = record { few = h; below = omega arith; small = omega arith; whole = e; rest = e; added = omega arith }
+  measured-starts h e = record { few = h; small = omega arith; whole = e; rest = e; added = omega arith }
 
   module _ {m i : ℕ} (x : Measured W table n bufferLength ok front m i) (d : W .Entry) (h : i < n) where
     pub measured-bad : W .ok bufferLength (n - i - 1) (getD table i d) ≡ false → ok ≡ false
@@ -58,7 +56,6 @@ module _ {W : Writer} {table : List (W .Entry)} {n bufferLength : ℕ} {ok : Boo
         let s : sizes W (drop i (take n table)) ≡ W .size (getD table i d) + sizes W (drop (i + 1) (take n table)) = ap (sizes W) (a .is) in
         record {
           few = x .few;
-          below = omega arith;
           small = omega (arith, x .small);
           whole = x .whole;
           rest = x .rest ∙ rw (a .is, a .behind, e);
@@ -99,7 +96,7 @@ module _ {W : Writer} {table : List (W .Entry)} {n : ℕ} {b : List ℕ} {ok : B
       pub asked-starts : {out₁ : List ℕ} {at : ℕ} → out₁ ≡ sets out 0 front → at ≡ length front → Placed W table n b out₁ at out₁ at 0
       asked-starts p h =
           let same = ap length p ∙ length-sets out 0 front in
-          record { few = q .few; below = omega arith; fine = q .fine; room = omega (arith, asked-room, same, h); long = refl; so-far = refl }
+          record { few = q .few; fine = q .fine; room = omega (arith, asked-room, same, h); long = refl; so-far = refl }
 
       pub asked-ends : {out₁ out′ : List ℕ} {at₁ at k : ℕ} → out₁ ≡ sets out 0 front → at₁ ≡ length front → Placed W table n b out₁ at₁ out′ at k → n ≤ k
           → Wrote ok s out a out′
@@ -140,7 +137,6 @@ module _ {W : Writer} {one : List ℕ → W .Entry → List ℕ} (B : Bodied W o
       let i : at + length (one b t) ≡ at + j = omega (arith, c, p) in
       record {
         few = x .few;
-        below = omega arith;
         fine = oks .1;
         room = omega (arith, x .room, long-rest, m, p);
         long = m ∙ x .long;
