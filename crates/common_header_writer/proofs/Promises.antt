@@ -1,6 +1,6 @@
 -- What a user of the writer of the common header relies on. Assumes nothing.
-use mathlib.Core.Path.{_≡_, refl, sym, ap, _∙_, subst}
-use mathlib.Core.Bool.{Bool, true, false}
+use mathlib.Core.Path.{_≡_, sym, ap, _∙_, subst}
+use mathlib.Core.Bool.{true}
 use mathlib.Core.List.{List}
 use Prim.Native.Nat.{ℕ, _≤_, _<_, _^_}
 use native.Mathlib.Omega.{arith}
@@ -8,8 +8,9 @@ use borrow.Author.Tests.{lt-ltb, ltb-true, eqb-true, eq-eqb}
 use lib.Dec.{ltb, eqb}
 use lib.ListN.{length, take}
 use Rattle.wire.specs.Number as Number
-use Rattle.wire.specs.Bytes.{pick, Bytes, none}
+use Rattle.wire.specs.Bytes.{Bytes, none}
 use Rattle.wire.proofs.Bytes.{bytes-be, bytes-append}
+use Rattle.writing.proofs.Tests.{both}
 use Rattle.writing.specs.Write.{lengthOf, Wrote}
 use Rattle.writing.specs.declared.WriteAnswer.{WriteAnswer}
 use Rattle.writing.specs.declared.WriteAnswer.the-variants.{Written}
@@ -25,11 +26,9 @@ use Rattle.common_header.proofs.Promises.{sound, complete, named}
 
 -- what `writable` asks: version 3, and a length of four bytes
 writable-is : (h : BmpCommonHeader) → writable h ≡ true → (h .version ≡ 3) × (h .«msg_len» < 256 ^ 4)
-writable-is h e = go (eqb (h .version) 3) refl e
-  where
-    go : (b : Bool) → eqb (h .version) 3 ≡ b → pick b (ltb (h .«msg_len») (256 ^ 4)) false ≡ true → (h .version ≡ 3) × (h .«msg_len» < 256 ^ 4)
-    go true k q = (eqb-true (h .version) 3 k, ltb-true (h .«msg_len») (256 ^ 4) q)
-    go false k q = let z : _≡_ {A = ℕ} 0 1 = cc in absurd (omega arith)
+writable-is h e =
+    let w = both (eqb (h .version) 3) (ltb (h .«msg_len») (256 ^ 4)) e in
+    (eqb-true (h .version) 3 (w .0), ltb-true (h .«msg_len») (256 ^ 4) (w .1))
 
 -- the bytes s are read as the header h, to their end
 pub record ReadsBack (h : BmpCommonHeader) (s : List ℕ) : Type 0 where

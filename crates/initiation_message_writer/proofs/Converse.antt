@@ -1,5 +1,5 @@
 -- No record is refused that would be read back as itself, where its views lie inside the buffer. Assumes nothing.
-use mathlib.Core.Path.{_≡_, refl, sym, ap, _∙_, subst}
+use mathlib.Core.Path.{_≡_, refl, sym, _∙_, subst}
 use mathlib.Core.Bool.{true}
 use mathlib.Core.List.{List, [], _∷_}
 use Prim.Native.Nat.{ℕ, suc, _+_, _-_, _≤_, _<_}
@@ -7,15 +7,14 @@ use native.Mathlib.Omega.{arith}
 use borrow.Author.Tests.{le-ltb}
 use lib.ListN.{length, getD, replicate, length-append}
 use Rattle.wire.specs.Bytes.{be}
-use Rattle.wire.specs.Parts.{joinAll, EachGood, AllAt}
+use Rattle.wire.specs.Parts.{EachGood, AllAt}
 use Rattle.wire.specs.Tlv.{Tlv, putTlv, sizeOf, putTail}
 use Rattle.wire.specs.Exactly.{Shows}
 use Rattle.wire.proofs.Tlv.{put-tlv-long}
-use Rattle.wire.proofs.Walk.{no-tail}
 use Rattle.initiation_message.specs.Read.{reader}
 use Rattle.writing.specs.Table.{parts, joined, allOk}
 use Rattle.writing.proofs.Table.{kept-each}
-use Rattle.writing.proofs.Trip.{table-back}
+use Rattle.writing.proofs.Trip.{table-good}
 use Rattle.tlv_table.proofs.Written.{good-part, before-from}
 use Rattle.initiation_message.specs.Grammar.{Reading, join, ReadTlv, places}
 use Rattle.initiation_message.specs.Shown.{infoOf, zeroTlv, entry}
@@ -61,11 +60,8 @@ writable-from m b long inside q x view-so r =
     let same = subst (λ (a : InitiationAnswer). Same m b (a .message) s) (x .shown-so) (r .same) in
     let few : m .count ≤ places = omega (arith, same .count-same, x .reading .fits) in
     let v : AllAt sizeOf (ViewAt s) 0 (q .tlvs) = subst (λ (z : List ℕ). AllAt sizeOf (ViewAt z) 0 (q .tlvs)) (x .reading .joined) view-so in
-    let each : q .tlvs ≡ parts writer b (kept m) =
-    table-back writer sizeOf entry (ViewAt s) b (λ t u. SameTlv t b u s) zeroTlv (λ at x t. one-part b s at x t)
-    (replicate (places - length (q .tlvs)) zeroTlv) (m .tlvs) (m .count) (q .tlvs) (omega (arith, long, few)) (same .count-same) v (same .tlv-same) in
-    let z : putTail (q .tail) ≡ [] =
-    no-tail putTlv (λ t. 4 + length (t .value)) put-tlv-long (parts writer b (kept m)) (putTail (q .tail)) (ap (λ (l : List Tlv). joinAll putTlv l (putTail (q .tail))) (sym each) ∙ x .reading .joined) in
-    let good : EachGood putTlv ReadTlv (parts writer b (kept m)) [] =
-    subst (λ (l : List Tlv). EachGood putTlv ReadTlv l []) each (subst (EachGood putTlv ReadTlv (q .tlvs)) z (x .reading .is-good .each)) in
+    let good =
+    table-good writer sizeOf entry (ViewAt s) b (λ t u. SameTlv t b u s) zeroTlv (one-part b s)
+    (replicate (places - length (q .tlvs)) zeroTlv) (m .tlvs) (m .count) 0 (q .tlvs) (omega (arith, long, few)) (same .count-same) v (same .tlv-same)
+    (λ t. 4 + length (t .value)) put-tlv-long ReadTlv (putTail (q .tail)) (x .reading .joined) (x .reading .is-good .each) in
     rw (le-ltb places (m .count) few) (all-fine b (kept m) good (kept-each (λ i. Inside b) (m .tlvs) (m .count) zeroTlv inside))

@@ -14,6 +14,7 @@ use Rattle.wire.proofs.Tlv.{tlv-length}
 use Rattle.writing.specs.Table.{joined, allOk}
 use Rattle.writing.proofs.Table.{length-joined, all-good, length-parts, length-sizes, Kept}
 use Rattle.writing.proofs.Trip.{table-same, end-sizes}
+use Rattle.tlv_table.proofs.Table.{bodied}
 use Rattle.tlv_table.proofs.Written.{part-good, before-of}
 use Rattle.initiation_message.specs.Grammar.{ReadTlv, Good, places}
 use Rattle.initiation_message.specs.Shown.{zeroTlv, entry, shown}
@@ -22,7 +23,7 @@ use Rattle.initiation_message_writer.specs.Write.{partOf, tlvWritable, w
 use Rattle.initiation_message.specs.declared.InitiationTlv.{InitiationTlv}
 use Rattle.initiation_message.specs.declared.InitiationMessage.{InitiationMessage}
 use Rattle.initiation_message.specs.declared.InitiationAnswer.{InitiationAnswer}
-use Rattle.initiation_message_writer.proofs.Written.{bodied}
+use Rattle.initiation_message_writer.proofs.Written.{entries}
 use Rattle.initiation_message.proofs.Shows.{ViewAt}
 
 read-tlv : (b : List ℕ) → Bytes b → (t : InitiationTlv) (l : List InitiationTlv) → tlvWritable (length b) (length l) t ≡ true → allOk writer (length b) l ≡ true
@@ -32,7 +33,7 @@ read-tlv b p t l e w =
     let g = part-good _ _ _ b (f .alone) p in
     record {
       well-formed = g;
-      more-than-four = omega (arith, tlv-length (partOf b t) (joined writer b l) g, length-joined writer bodied b l w, length-sizes writer (λ u. omega arith) l, f .not-last-empty);
+      more-than-four = omega (arith, tlv-length (partOf b t) (joined writer b l) g, length-joined writer (bodied entries) b l w, length-sizes writer (λ u. omega arith) l, f .not-last-empty);
     }
 
 pub good-of : (m : InitiationMessage) (b : List ℕ) → Bytes b → allOk writer (length b) (kept m) ≡ true → Good (readingOf m b)
@@ -56,9 +57,9 @@ reads-back m b long x a v =
     record {
       read-good = ap (λ (y : InitiationAnswer). y .refusal .number) a;
       whole = ap (λ (y : InitiationAnswer). y .stop) a ∙ end-sizes writer sizeOf entry (ViewAt s) b (λ n t o. refl) (kept m) 0 (x .fine)
-          ∙ omega (arith, length-joined writer bodied b (kept m) (x .fine));
+          ∙ omega (arith, length-joined writer (bodied entries) b (kept m) (x .fine));
       same = subst (λ (y : InitiationAnswer). Same m b (y .message) s) (sym a) (record {
         count-same = sym (length-parts writer b (kept m) ∙ length-take-le (m .count) (m .tlvs) few);
-        tlv-same = table-same writer sizeOf entry (ViewAt s) b (λ t u. SameTlv t b u s) zeroTlv (same-tlv b s) _ (m .tlvs) (m .count) few (x .fine) v;
+        tlv-same = table-same writer sizeOf entry (ViewAt s) b (λ t u. SameTlv t b u s) zeroTlv (same-tlv b s) _ (m .tlvs) (m .count) 0 few (x .fine) v;
       });
     }

@@ -11,6 +11,7 @@ use Rattle.wire.specs.Number as Number
 use Rattle.wire.specs.Bytes.{Bytes, none}
 use Rattle.wire.proofs.Bytes.{bytes-be, bytes-append}
 use Rattle.wire.proofs.Views.{bytes-viewed, octets-zeros}
+use Rattle.writing.proofs.Tlv.{view-long}
 use Rattle.times.specs.Time.{timeOf}
 use Rattle.models.specs.declared.Afi.{Afi}
 use Rattle.models.specs.declared.Afi.the-variants.{Ipv4, Ipv6}
@@ -22,7 +23,7 @@ use Rattle.openbmp.specs.Read.{routerIpOf}
 use Rattle.openbmp_writer.specs.Write.{familyBit, ipOf, blankIp, readingOf, bytesOf, writable, Typed, Same}
 use Rattle.openbmp.specs.declared.OpenBmpHeader.{OpenBmpHeader}
 use Rattle.openbmp.proofs.Laws.{ip-fits, length-join, admin-viewed, group-viewed}
-use Rattle.openbmp_writer.proofs.Written.{viewed-long, Writable, writable-is, writable-from}
+use Rattle.openbmp_writer.proofs.Written.{Writable, writable-is, writable-from}
 
 -- ---- addresses with their skipped bytes zero
 blank-fits : (ip : RouterIp) → RouterIpFits ip → RouterIpFits (blankIp ip)
@@ -92,11 +93,11 @@ module _ (h : OpenBmpHeader) (b : List ℕ) (t : Typed h) (p : Bytes b) where
           microseconds-fit = t .microseconds-fit;
           collector-hash-fits = octets-zeros 16;
           admin-length-fits = w .admin-short;
-          admin-fits = record { many = viewed-long b (h .«admin_id») (w .admin-inside); are-bytes = bytes-viewed b (h .«admin_id») p };
+          admin-fits = record { many = view-long b (h .«admin_id») (w .admin-inside); are-bytes = bytes-viewed b (h .«admin_id») p };
           router-hash-fits = octets-zeros 16;
           router-ip-fits = own-ip;
           group-length-fits = w .group-short;
-          group-fits = record { many = viewed-long b (h .«router_group») (w .group-inside); are-bytes = bytes-viewed b (h .«router_group») p };
+          group-fits = record { many = view-long b (h .«router_group») (w .group-inside); are-bytes = bytes-viewed b (h .«router_group») p };
           row-count-is = refl;
           tail-bytes = none;
         }
@@ -129,9 +130,9 @@ module _ (h : OpenBmpHeader) (b : List ℕ) (t : Typed h) (p : Bytes b) where
     again-writable =
         let time = same .timestamp-same ∙ (λ i. timeOf (sym (same .seconds-same) i) (sym (same .microseconds-same) i)) in
         let admin : h .«admin_id» .length ≡ q .adminLength =
-        sym (viewed-long b (h .«admin_id») admin-inside) ∙ ap length (same .admin-same ∙ admin-viewed q g) ∙ g .admin-fits .many in
+        sym (view-long b (h .«admin_id») admin-inside) ∙ ap length (same .admin-same ∙ admin-viewed q g) ∙ g .admin-fits .many in
         let group : h .«router_group» .length ≡ q .groupLength =
-        sym (viewed-long b (h .«router_group») group-inside) ∙ ap length (same .group-same ∙ group-viewed q g) ∙ g .group-fits .many in
+        sym (view-long b (h .«router_group») group-inside) ∙ ap length (same .group-same ∙ group-viewed q g) ∙ g .group-fits .many in
         writable-from h (length b)
         (record {
           major-is = same .major-same ∙ g .major-is;

@@ -12,9 +12,10 @@ use Rattle.wire.specs.Bytes.{be}
 use Rattle.wire.specs.View.{inside, viewed}
 use Rattle.wire.specs.declared.View.{View}
 use Rattle.wire.proofs.Bytes.{length-be}
-use Rattle.wire.proofs.Views.{inside-is, viewed-inside, length-part}
+use Rattle.wire.proofs.Views.{inside-is}
 use Rattle.writing.specs.Write.{putAt}
 use Rattle.writing.proofs.Sets.{put-then, put-fits, length-put}
+use Rattle.writing.proofs.Tlv.{view-long}
 use Rattle.models.specs.declared.IpAddr.{IpAddr}
 use Rattle.models.proofs.Promises.{equals-is-equality}
 use Rattle.openbmp.specs.Grammar.{RouterIp, ipv4, ipv6, routerIpBytes, flagsOf}
@@ -124,9 +125,6 @@ module _ (h : OpenBmpHeader) (admin group : List ℕ) where
       ∙ put-fits out 0 (allBytes h admin group) (omega (arith, length-all sixteen))
 
 -- ---- what `writable` asks
-pub viewed-long : (b : List ℕ) (v : View) → v .place + v .length ≤ length b → length (viewed b v) ≡ v .length
-viewed-long b v h = ap length (viewed-inside b v h) ∙ length-part b (v .place) (v .length) h
-
 pub record Writable (h : OpenBmpHeader) (room : ℕ) : Type 0 where
   pub major-is : h .«major_version» ≡ 1
   pub minor-is : h .«minor_version» ≡ 7
@@ -195,8 +193,8 @@ module _ (h : OpenBmpHeader) (b : List ℕ) where
       let group = viewed b (h .«router_group») in
       let octets : routerIpBytes (blankIp (ipOf (h .«router_ip»))) ≡ h .«router_ip» .octets =
       written-ip (ipOf (h .«router_ip»)) ∙ ap (λ (a : IpAddr). a .octets) (w .ip-is) in
-      let admin-long = sym (viewed-long b (h .«admin_id») (w .admin-inside)) in
-      let group-long = sym (viewed-long b (h .«router_group») (w .group-inside)) in
+      let admin-long = sym (view-long b (h .«admin_id») (w .admin-inside)) in
+      let group-long = sym (view-long b (h .«router_group») (w .group-inside)) in
       let flags = flagsOf 1 (familyBit (h .«router_ip» .afi)) 0 in
       λ i. be 4 0x4F424D50 ++ (be 1 (w .major-is i) ++ (be 1 (w .minor-is i) ++ (be 2 (h .«header_len») ++ (be 4 (h .«msg_len») ++
       (be 1 flags ++ (be 1 (w .object-type-is i) ++ (timeBytes (h .seconds) (h .microseconds) ++
@@ -207,14 +205,14 @@ module _ (h : OpenBmpHeader) (b : List ℕ) where
   length-written sixteen e =
       let w = writable-is h (length b) e in
       ap length (bytes-are e) ∙ length-all h (viewed b (h .«admin_id»)) (viewed b (h .«router_group»)) sixteen
-      ∙ omega (arith, viewed-long b (h .«admin_id») (w .admin-inside), viewed-long b (h .«router_group») (w .group-inside))
+      ∙ omega (arith, view-long b (h .«admin_id») (w .admin-inside), view-long b (h .«router_group») (w .group-inside))
 
   -- the three puts of a writable header, whose views show admin and group
   module _ (e : writable h (length b) ≡ true) (admin group : List ℕ) (admin-is : admin ≡ viewed b (h .«admin_id»)) (group-is : group ≡ viewed b (h .«router_group»)) where
     pub lengths-are : (length admin ≡ h .«admin_id» .length) × (length group ≡ h .«router_group» .length)
     lengths-are =
         let w = writable-is h (length b) e in
-        (ap length admin-is ∙ viewed-long b (h .«admin_id») (w .admin-inside), ap length group-is ∙ viewed-long b (h .«router_group») (w .group-inside))
+        (ap length admin-is ∙ view-long b (h .«admin_id») (w .admin-inside), ap length group-is ∙ view-long b (h .«router_group») (w .group-inside))
 
     pub put-written : (flags : ℕ) (out o1 o2 o3 : List ℕ) → length (h .«router_ip» .octets) ≡ 16 → 78 + length admin + length group ≤ length out
         → flags ≡ flagsOf 1 (familyBit (h .«router_ip» .afi)) 0

@@ -1,16 +1,17 @@
 -- A notification that was written and is read again, and the converse. Assumes nothing.
 use mathlib.Core.Path.{_≡_, refl, sym, ap, _∙_}
-use mathlib.Core.Bool.{Bool, true, false}
+use mathlib.Core.Bool.{true}
 use mathlib.Core.List.{List, [], _∷_, _++_, append-nil}
 use Prim.Native.Nat.{ℕ, _+_, _≤_}
 use native.Mathlib.Omega.{arith}
 use borrow.Author.Tests.{leb-true}
 use lib.ListN.{length, length-append}
 use Rattle.wire.specs.Number as Number
-use Rattle.wire.specs.Bytes.{pick, be, Bytes, none}
+use Rattle.wire.specs.Bytes.{be, Bytes, none}
 use Rattle.wire.specs.View.{noView, inside, viewed}
-use Rattle.wire.specs.declared.View.{View}
-use Rattle.wire.proofs.Views.{inside-is, viewed-inside, length-part, bytes-viewed}
+use Rattle.wire.proofs.Views.{inside-is, bytes-viewed}
+use Rattle.writing.proofs.Tests.{both, past}
+use Rattle.writing.proofs.Tlv.{view-long}
 use Rattle.peer_down_notification.specs.Grammar.{Data, absent, present, dataBytes, Follows, Good}
 use Rattle.peer_down_notification.specs.Shown.{reasonOf, kindOf, stopAfter, refusalOf, stopOf, notificationOf, isPresent, viewOf, dataOf}
 use Rattle.peer_down_notification.specs.Read.{hasData, readPeerDown}
@@ -40,16 +41,10 @@ pub record Fine (k : ℕ) (d : PeerDownData) (room : ℕ) : Type 0 where
 
 pub fine-of : (k : ℕ) (d : PeerDownData) (room : ℕ) → partsWritable k (isPresent d) (viewOf d) room ≡ true → Fine k d room
 unfolding partsWritable
-fine-of k Absent room e = go (hasData k 0) refl e
-  where
-    go : (b : Bool) → hasData k 0 ≡ b → pick b false (inside room (noView)) ≡ true → Fine k Absent room
-    go true h q = let z : _≡_ {A = ℕ} 0 1 = cc in absurd (omega arith)
-    go false h q = record { given = h; within = omega arith }
-fine-of k (Present v) room e = go (hasData k (v .length)) refl e
-  where
-    go : (b : Bool) → hasData k (v .length) ≡ b → pick b (inside room v) false ≡ true → Fine k (Present v) room
-    go true h q = record { given = h; within = leb-true (v .place + v .length) room q }
-    go false h q = let z : _≡_ {A = ℕ} 0 1 = cc in absurd (omega arith)
+fine-of k Absent room e = record { given = past (hasData k 0) (inside room noView) e .0; within = omega arith }
+fine-of k (Present v) room e =
+    let h = both (hasData k (v .length)) (inside room v) e in
+    record { given = h .0; within = leb-true (v .place + v .length) room (h .1) }
 
 pub fine-from : (k : ℕ) (d : PeerDownData) (room : ℕ) → Fine k d room → partsWritable k (isPresent d) (viewOf d) room ≡ true
 unfolding partsWritable
@@ -57,12 +52,9 @@ fine-from k Absent room f = rw (f .given) (inside-is room (noView) (f .within))
 fine-from k (Present v) room f = rw (f .given) (inside-is room v (f .within))
 
 -- ---- a writable notification's reading is good
-long-data : (b : List ℕ) (v : View) → v .place + v .length ≤ length b → length (viewed b v) ≡ v .length
-long-data b v h = ap length (viewed-inside b v h) ∙ length-part b (v .place) (v .length) h
-
 follows-of : (b : List ℕ) (k : ℕ) (d : PeerDownData) → k ≤ 6 → Fine k d (length b) → Follows k (dataOf b d) []
 follows-of b k Absent h f = without-data k h [] (f .given)
-follows-of b k (Present v) h f = with-data k h (viewed b v) (rw (long-data b v (f .within)) (f .given))
+follows-of b k (Present v) h f = with-data k h (viewed b v) (rw (view-long b v (f .within)) (f .given))
 
 pub bytes-data : (b : List ℕ) → Bytes b → (d : PeerDownData) → Bytes (dataBytes (dataOf b d))
 bytes-data b p Absent = none
@@ -80,7 +72,7 @@ good-of m b p e =
 pub fine-back : (b : List ℕ) (k : ℕ) (d : PeerDownData) → viewOf d .place + viewOf d .length ≤ length b → Follows k (dataOf b d) [] → Fine k d (length b)
 fine-back b k Absent h f = record { given = test-of k absent [] f; within = h }
 fine-back b k (Present v) h f =
-    record { given = ap (hasData k) (sym (ap length (append-nil (viewed b v)) ∙ long-data b v h)) ∙ test-of k (present (viewed b v)) [] f; within = h }
+    record { given = ap (hasData k) (sym (ap length (append-nil (viewed b v)) ∙ view-long b v h)) ∙ test-of k (present (viewed b v)) [] f; within = h }
 
 -- ---- the bytes s are read as the notification m, whose view points into b, to their end
 pub record ReadsBack (m : PeerDownNotification) (b s : List ℕ) : Type 0 where

@@ -6,7 +6,7 @@ use Prim.Native.Nat.{ℕ, suc, _+_, _-_, _≤_, _<_}
 use native.Mathlib.Omega.{arith}
 use borrow.Author.Tests.{le-ltb}
 use lib.ListN.{length, drop, getD, replicate, length-replicate}
-use lib.Seq.{drop-at, length-take-le}
+use lib.Seq.{drop-at}
 use Rattle.wire.specs.Bytes.{Bytes}
 use Rattle.wire.specs.Parts.{EachGood}
 use Rattle.wire.specs.Tlv.{Tlv, putTlv, sizeOf}
@@ -16,9 +16,11 @@ use Rattle.wire.proofs.Bytes.{bytes-append, bytes-be, bytes-take, bytes-drop, n
 use Rattle.wire.proofs.Views.{bytes-viewed, octets-zeros}
 use Rattle.wire.specs.Exactly.{Shows}
 use Rattle.writing.specs.Table.{parts, allOk}
-use Rattle.writing.proofs.Table.{kept-each, bytes-joined}
-use Rattle.writing.proofs.Trip.{parts-back}
-use Rattle.tlv_table.proofs.Written.{view-long, good-part, entry-bytes}
+use Rattle.writing.proofs.Table.{kept-each}
+use Rattle.writing.proofs.Tlv.{view-long}
+use Rattle.writing.proofs.Trip.{table-back}
+use Rattle.tlv_table.proofs.Table.{all-bytes}
+use Rattle.tlv_table.proofs.Written.{good-part}
 use Rattle.addresses.specs.Address.{shownIp}
 use Rattle.models.specs.declared.IpAddr.{IpAddr}
 use Rattle.models.proofs.Promises.{equals-is-equality}
@@ -27,13 +29,13 @@ use Rattle.peer_up_notification.specs.Grammar.{messageBytes, ReadTlv, skippedFo
 use Rattle.peer_up_notification.specs.Shown.{infoOf, zeroTlv, entry, tlvsAt, shownAddress, shown, kept}
 use Rattle.peer_up_notification.specs.Told.{openOf}
 use Rattle.peer_up_notification.specs.Read.{reader}
-use Rattle.peer_up_notification_writer.specs.Write.{partOf, addressWritable, openWritable, writer, bytesOf, tlvsWritable, writable, entryOf, Typed, SameTlv, Same}
+use Rattle.peer_up_notification_writer.specs.Write.{partOf, addressWritable, openWritable, writer, bytesOf, tlvsWritable, writable, Typed, SameTlv, Same}
 use Rattle.peer_up_notification.specs.declared.PeerUpNotificationTlv.{PeerUpNotificationTlv}
 use Rattle.peer_up_notification.specs.declared.PeerUpNotification.{PeerUpNotification}
 use Rattle.peer_up_notification.specs.declared.PeerUpAnswer.{PeerUpAnswer}
 use Rattle.peer_up_notification.proofs.Address.{address-shown}
 use Rattle.peer_up_notification.proofs.Opens.{OneMessage, one-message}
-use Rattle.peer_up_notification_writer.proofs.Written.{bodied, open-from}
+use Rattle.peer_up_notification_writer.proofs.Written.{entries, open-from}
 use Rattle.peer_up_notification.proofs.Shows.{ViewAt, ShowsParts}
 use Rattle.peer_up_notification_writer.proofs.Trip.{ReadsBack}
 
@@ -85,7 +87,7 @@ bytes-written m b p t =
     (bytes-append (bytes-be 2 (m .«local_port»))
     (bytes-append (bytes-be 2 (m .«remote_port»))
     (bytes-append (bytes-open (bytes-viewed b (m .«sent_open») p))
-    (bytes-append (bytes-open (bytes-viewed b (m .«received_open») p)) (bytes-joined writer bodied b (λ t. entry-bytes b p (entryOf t)) (kept m)))))))
+    (bytes-append (bytes-open (bytes-viewed b (m .«received_open») p)) (all-bytes entries b p (kept m)))))))
 
 -- ---- the whole record
 module _ (peer : BmpPeerType) (m : PeerUpNotification) (b : List ℕ) (p : Bytes b) (t : Typed m) (inside : Inside m b) (q : Reading)
@@ -115,11 +117,9 @@ module _ (peer : BmpPeerType) (m : PeerUpNotification) (b : List ℕ) (p : Bytes
       let s = bytesOf m b in
       let n : m .count ≡ length (q .tlvs) = same .count-same in
       let few : m .count ≤ places = omega (arith, n, x .reading .fits) in
-      let k : length (kept m) ≡ m .count = length-take-le (m .count) (m .tlvs) (omega (arith, t .table-long, few)) in
       let each : q .tlvs ≡ parts writer b (kept m) =
-      parts-back writer sizeOf entry (ViewAt s) b (λ t u. SameTlv t b u s) zeroTlv (λ at x t. one-part b s at x t)
-      (replicate (places - length (q .tlvs)) zeroTlv) (kept m) (q .tlvs) (tlvsAt q) (k ∙ n) (v .tlvs-shown)
-      (kept-each (λ i t. SameTlv t b (getD (shown (m .«local_addr» .afi) peer q .message .tlvs) i zeroTlv) s) (m .tlvs) (m .count) zeroTlv (same .tlv-same)) in
+      table-back writer sizeOf entry (ViewAt s) b (λ t u. SameTlv t b u s) zeroTlv (one-part b s)
+      (replicate (places - length (q .tlvs)) zeroTlv) (m .tlvs) (m .count) (tlvsAt q) (q .tlvs) (omega (arith, t .table-long, few)) n (v .tlvs-shown) (same .tlv-same) in
       rw (le-ltb places (m .count) few) (all-fine b (kept m) (q .tail)
       (subst (λ (l : List Tlv). EachGood putTlv ReadTlv l (q .tail)) each (x .reading .is-good .each))
       (kept-each (λ i t. Within b (infoOf t)) (m .tlvs) (m .count) zeroTlv (inside .tlvs-inside)))

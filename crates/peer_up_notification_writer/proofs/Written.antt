@@ -17,9 +17,9 @@ use Rattle.wire.proofs.Views.{inside-is, bytes-viewed}
 use Rattle.writing.specs.Table.{joined, allOk}
 use Rattle.writing.specs.Write.{putAt}
 use Rattle.writing.proofs.Sets.{sets-append, put-then, put-fits, length-put}
-use Rattle.writing.proofs.Table.{Bodied, Kept, kept-of}
-use Rattle.tlv_table.specs.Tlvs.{oneTlv}
-use Rattle.tlv_table.proofs.Written.{view-long, entry-long}
+use Rattle.writing.proofs.Tlv.{view-long}
+use Rattle.writing.proofs.Table.{Kept, kept-of}
+use Rattle.tlv_table.proofs.Table.{Entries}
 use Rattle.addresses.specs.Address.{shownIp}
 use Rattle.models.specs.declared.IpAddr.{IpAddr}
 use Rattle.models.proofs.Promises.{equals-is-equality}
@@ -27,18 +27,14 @@ use Rattle.peer_up_notification.specs.Grammar.{messageBytes, skippedFor, places
 use Rattle.peer_up_notification.specs.Shown.{shownAddress, kept}
 use Rattle.peer_up_notification.specs.Told.{openOf}
 use Rattle.peer_up_notification_writer.specs.Write.{addressWritable, openWritable, writer, bytesOf, tlvsWritable, frontWritable, writable, endpointBytes, openBytes, frontBytes, frontLength, entryOf}
-use Rattle.peer_up_notification.specs.declared.PeerUpNotificationTlv.{PeerUpNotificationTlv}
 use Rattle.peer_up_notification.specs.declared.PeerUpNotification.{PeerUpNotification}
 use Rattle.peer_up_notification.proofs.Address.{address-shown}
 use Rattle.peer_up_notification.proofs.Opens.{OneMessage, open-back}
 
--- ---- the bytes of one TLV alone, as the kit wants them
-abbrev pub oneOf : List ℕ → PeerUpNotificationTlv → List ℕ
-oneOf b t = oneTlv b (entryOf t)
-
-pub bodied : Bodied writer oneOf
+-- ---- what is put for one TLV
+pub entries : Entries writer entryOf
 unfolding be
-bodied = record { put-is = λ b t r. refl; length-is = λ b n t e. entry-long b (entryOf t) e }
+entries = record { put-is = λ b t r. refl; fine = λ room after t e. e; size-is = λ t. refl }
 
 -- ---- a BGP message
 pub record FineOpen (b : List ℕ) (v : View) : Type 0 where

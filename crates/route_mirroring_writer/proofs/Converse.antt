@@ -1,18 +1,18 @@
 -- No record is refused that would be read back as itself, where its views lie inside the buffer and its information has length 2.
 -- Assumes nothing.
-use mathlib.Core.Path.{_≡_, refl, sym, ap, _∙_, subst}
+use mathlib.Core.Path.{_≡_, refl, sym, _∙_, subst}
 use mathlib.Core.Bool.{true}
 use mathlib.Core.List.{List, [], _∷_, _++_}
 use Prim.Native.Nat.{ℕ, zero, suc, _+_, _-_, _≤_, _<_}
 use native.Mathlib.Omega.{arith}
 use borrow.Author.Tests.{le-ltb}
 use lib.ListN.{length, getD, replicate}
-use Rattle.wire.specs.Parts.{joinAll, EachGood, AllAt, shownFrom}
+use Rattle.wire.specs.Parts.{EachGood, AllAt, shownFrom}
 use Rattle.wire.specs.Exactly.{Shows}
 use Rattle.route_mirroring.specs.Read.{reader}
 use Rattle.writing.specs.Table.{parts, joined, allOk}
 use Rattle.writing.proofs.Table.{kept-each}
-use Rattle.writing.proofs.Trip.{table-back}
+use Rattle.writing.proofs.Trip.{table-good}
 use Rattle.tlv_table.proofs.Written.{good-part}
 use Rattle.route_mirroring.specs.Grammar.{Tlv, bgpMessage, information, put, Reading, join, ReadTlv, places, sizeOf}
 use Rattle.route_mirroring.specs.Shown.{valueOf, zeroTlv, entry}
@@ -22,7 +22,7 @@ use Rattle.route_mirroring.specs.declared.RouteMirroringValue.the-variants.{Bgp
 use Rattle.route_mirroring.specs.declared.RouteMirroringTlv.{RouteMirroringTlv}
 use Rattle.route_mirroring.specs.declared.RouteMirroring.{RouteMirroring}
 use Rattle.route_mirroring.specs.declared.RouteMirroringAnswer.{RouteMirroringAnswer}
-use Rattle.route_mirroring_writer.proofs.Written.{Known, FineValue, fine-from, no-tail}
+use Rattle.route_mirroring_writer.proofs.Written.{Known, FineValue, fine-from, longOf, put-long}
 use Rattle.route_mirroring.proofs.Shows.{ViewAt}
 use Rattle.route_mirroring_writer.proofs.Trip.{ReadsBack}
 
@@ -106,14 +106,11 @@ writable-from m b long inside two q x view-so r =
     let same = subst (λ (a : RouteMirroringAnswer). Same m b (a .message) s) (x .shown-so) (r .same) in
     let few : m .count ≤ places = omega (arith, same .count-same, x .reading .fits) in
     let v : AllAt sizeOf (ViewAt s) 0 (q .tlvs) = subst (λ (z : List ℕ). AllAt sizeOf (ViewAt z) 0 (q .tlvs)) (x .reading .joined) view-so in
-    let each : q .tlvs ≡ parts writer b (kept m) =
-    table-back writer sizeOf entry (ViewAt s) b (λ t u. SameTlv t b u s) zeroTlv (λ at x t. one-part b s at x (t .kind) (t .«info_len») (t .number))
-    (replicate (places - length (q .tlvs)) zeroTlv) (m .tlvs) (m .count) (q .tlvs) (omega (arith, long, few)) (same .count-same) v (same .tlv-same) in
-    let z : q .tail ≡ [] =
-    no-tail (parts writer b (kept m)) (q .tail) (ap (λ (l : List Tlv). joinAll put l (q .tail)) (sym each) ∙ x .reading .joined) in
-    let good : EachGood put ReadTlv (parts writer b (kept m)) [] =
-    subst (λ (l : List Tlv). EachGood put ReadTlv l []) each (subst (EachGood put ReadTlv (q .tlvs)) z (x .reading .is-good .each)) in
     let rest = replicate (places - length (q .tlvs)) zeroTlv in
+    let good =
+    table-good writer sizeOf entry (ViewAt s) b (λ t u. SameTlv t b u s) zeroTlv (λ at x t. one-part b s at x (t .kind) (t .«info_len») (t .number))
+    rest (m .tlvs) (m .count) 0 (q .tlvs) (omega (arith, long, few)) (same .count-same) v (same .tlv-same)
+    longOf put-long ReadTlv (q .tail) (x .reading .joined) (x .reading .is-good .each) in
     let asked : (i : ℕ) → i < m .count → Asked b (getD (m .tlvs) i zeroTlv) =
     λ i h. record {
       inside = inside i h;

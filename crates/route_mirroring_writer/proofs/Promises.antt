@@ -11,13 +11,13 @@ use Rattle.writing.specs.Write.{lengthOf, Wrote}
 use Rattle.writing.specs.declared.WriteAnswer.{WriteAnswer}
 use Rattle.writing.specs.declared.WriteAnswer.the-variants.{Written}
 use Rattle.writing.proofs.Answers.{front, wrote-determined}
-use Rattle.writing.proofs.Table.{bytes-joined, length-parts, kept-of}
-use Rattle.tlv_table.proofs.Written.{entry-bytes}
+use Rattle.writing.proofs.Table.{length-parts, kept-of}
+use Rattle.tlv_table.proofs.Table.{all-bytes}
 use Rattle.route_mirroring.specs.Grammar.{places}
 use Rattle.route_mirroring.specs.Shown.{zeroTlv}
-use Rattle.route_mirroring_writer.specs.Write.{writer, kept, readingOf, bytesOf, writable, entryOf}
+use Rattle.route_mirroring_writer.specs.Write.{writer, kept, readingOf, bytesOf, writable}
 use Rattle.route_mirroring.specs.declared.RouteMirroring.{RouteMirroring}
-use Rattle.route_mirroring_writer.proofs.Written.{bodied}
+use Rattle.route_mirroring_writer.proofs.Written.{entries}
 use Rattle.route_mirroring_writer.proofs.Trip.{good-of, ReadsBack, reads-back}
 use Rattle.route_mirroring_writer.proofs.Converse.{Inside, TwoBytes, writable-from}
 use Rattle.route_mirroring.proofs.Promises.{sound, complete, views}
@@ -40,7 +40,7 @@ pub only-writable : (m : RouteMirroring) (b : List ℕ) → Bytes b → length (
     → ((i : ℕ) → i < m .count → Inside b (getD (m .tlvs) i zeroTlv)) → ((i : ℕ) → i < m .count → TwoBytes (getD (m .tlvs) i zeroTlv))
     → ReadsBack m b (bytesOf m b) → writable m (length b) ≡ true
 only-writable m b p long inside two r =
-    let q = sound (bytesOf m b) (bytes-joined writer bodied b (λ t. entry-bytes b p (entryOf t)) (kept m)) (r .read-good) in
+    let q = sound (bytesOf m b) (all-bytes entries b p (kept m)) (r .read-good) in
     writable-from m b long inside two (q .0) (q .1) (views (q .0) (q .1 .reading .is-good)) r
 
 -- ---- any two answers, and any two outputs, that the contract allows are equal

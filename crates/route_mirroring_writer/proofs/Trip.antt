@@ -12,6 +12,7 @@ use Rattle.wire.specs.Parts.{AllAt}
 use Rattle.writing.specs.Table.{allOk}
 use Rattle.writing.proofs.Table.{all-good, length-parts, length-joined, Kept}
 use Rattle.writing.proofs.Trip.{table-same, end-sizes}
+use Rattle.tlv_table.proofs.Table.{bodied}
 use Rattle.tlv_table.proofs.Written.{part-good}
 use Rattle.route_mirroring.specs.Grammar.{ReadTlv, Good, places, sizeOf}
 use Rattle.route_mirroring.specs.Shown.{codeOf, valueOf, zeroTlv, entry, shown}
@@ -23,7 +24,7 @@ use Rattle.route_mirroring.specs.declared.RouteMirroringValue.{RouteMirroringVa
 use Rattle.route_mirroring.specs.declared.RouteMirroringValue.the-variants.{BgpMessage, Information}
 use Rattle.route_mirroring.specs.declared.RouteMirroring.{RouteMirroring}
 use Rattle.route_mirroring.specs.declared.RouteMirroringAnswer.{RouteMirroringAnswer}
-use Rattle.route_mirroring_writer.proofs.Written.{Known, FineValue, fine-of, bodied}
+use Rattle.route_mirroring_writer.proofs.Written.{Known, FineValue, fine-of, entries}
 use Rattle.route_mirroring.proofs.Shows.{ViewAt, code-told}
 
 info-known : (i : RouteMirroringInfo) → codeOf i ≤ 1
@@ -71,10 +72,10 @@ reads-back m b long x a v =
       read-good = ap (λ (y : RouteMirroringAnswer). y .refusal .number) a;
       whole = ap (λ (y : RouteMirroringAnswer). y .stop) a
           ∙ end-sizes writer sizeOf entry (ViewAt s) b (λ n t o. size-value b (t .«info_len») (valueOf t) (fine-of (length b) t o .fine-value)) (kept m) 0 (x .fine)
-          ∙ omega (arith, length-joined writer bodied b (kept m) (x .fine));
+          ∙ omega (arith, length-joined writer (bodied entries) b (kept m) (x .fine));
       same = subst (λ (y : RouteMirroringAnswer). Same m b (y .message) s) (sym a) (record {
         count-same = sym (length-parts writer b (kept m) ∙ length-take-le (m .count) (m .tlvs) few);
         tlv-same = table-same writer sizeOf entry (ViewAt s) b (λ t u. SameTlv t b u s) zeroTlv
-            (λ n at t o e. same-tlv b s at (t .kind) (t .«info_len») (t .number) (fine-of (length b) t o .is-known) e) _ (m .tlvs) (m .count) few (x .fine) v;
+            (λ n at t o e. same-tlv b s at (t .kind) (t .«info_len») (t .number) (fine-of (length b) t o .is-known) e) _ (m .tlvs) (m .count) 0 few (x .fine) v;
       });
     }

@@ -1,7 +1,7 @@
 -- What the writing kit asks of a Route Mirroring body. Assumes nothing.
 use mathlib.Core.Path.{_≡_, refl, sym, ap, _∙_}
 use mathlib.Core.Bool.{Bool, true, false}
-use mathlib.Core.List.{List, [], _++_}
+use mathlib.Core.List.{List, _++_}
 use Prim.Native.Nat.{ℕ, zero, suc, _+_, _≤_, _<_}
 use native.Mathlib.Omega.{arith}
 use borrow.Author.Tests.{leb-true, le-leb, eqb-true, eq-eqb}
@@ -11,15 +11,12 @@ use mir.Val.{Val}
 use denote.Laws.{Is}
 use denote.Struct.Laws as Struct
 use Rattle.wire.specs.Bytes.{pick, be}
-use Rattle.wire.specs.Parts.{joinAll}
-use Rattle.wire.proofs.Walk as Walk
 use Rattle.wire.specs.declared.View.{View}
 use Rattle.writing.proofs.Tests.{both}
-use Rattle.writing.proofs.Table.{Bodied}
 use Rattle.tlv_table.specs.Tlvs.{entryWritable, oneTlv}
 use Rattle.tlv_table.specs.declared.TlvValue.the-variants.{Part}
 use Rattle.tlv_table.specs.declared.TlvEntry.{TlvEntry}
-use Rattle.tlv_table.proofs.Written.{entry-long}
+use Rattle.tlv_table.proofs.Table.{Entries}
 use Rattle.route_mirroring.specs.Grammar.{Tlv, bgpMessage, information, put, places}
 use Rattle.route_mirroring.specs.Shown.{valueOf}
 use Rattle.route_mirroring_writer.specs.Write.{valuePart, known, hasHeader, headedWritable, tlvWritable, writer, valueEntry, entryOf}
@@ -52,17 +49,16 @@ pub record Fine (room : ℕ) (t : RouteMirroringTlv) : Type 0 where
   pub fine-value : FineValue room (t .«info_len») (valueOf t)
 
 known-of : (kind size number : ℕ) → known (record { kind = kind; «info_len» = size; number = number }) ≡ true → Known kind number
-known-of kind size number e = go (eqb kind 0) refl (eqb kind 1) refl (leb number 1) refl e
+known-of kind size number e = go (eqb kind 0) refl e
   where
-    go : (a : Bool) → eqb kind 0 ≡ a → (b : Bool) → eqb kind 1 ≡ b → (d : Bool) → leb number 1 ≡ d → pick a true (pick b d false) ≡ true → Known kind number
-    go true ha b hb d hd q =
-        let k = eqb-true kind 0 ha in
+    go : (a : Bool) → eqb kind 0 ≡ a → pick a true (pick (eqb kind 1) (leb number 1) false) ≡ true → Known kind number
+    go true h q =
+        let k = eqb-true kind 0 h in
         record { kind-known = omega arith; code-known = λ h. absurd (omega arith) }
-    go false ha true hb true hd q =
-        let k = eqb-true kind 1 hb in
-        record { kind-known = omega arith; code-known = λ h. leb-true number 1 hd }
-    go false ha true hb false hd q = let z : _≡_ {A = ℕ} 0 1 = cc in absurd (omega arith)
-    go false ha false hb d hd q = let z : _≡_ {A = ℕ} 0 1 = cc in absurd (omega arith)
+    go false h q =
+        let x = both (eqb kind 1) (leb number 1) q in
+        let k = eqb-true kind 1 (x .0) in
+        record { kind-known = omega arith; code-known = λ h. leb-true number 1 (x .1) }
 
 known-from : (kind size number : ℕ) → Known kind number → known (record { kind = kind; «info_len» = size; number = number }) ≡ true
 known-from zero size number h = refl
@@ -100,40 +96,30 @@ pub entry-decides : (room : ℕ) (t : RouteMirroringTlv) (e : TlvEntry) → know
 unfolding tlvWritable
 entry-decides room t e k p = ap (headedWritable room) p ∙ ap (λ (a : Bool). pick a (headedWritable room (entryOf t)) false) (sym k)
 
+-- ---- what is put for one TLV
 value-size : (size : ℕ) (x : RouteMirroringValue) → valueEntry size x .size ≡ size
 value-size size (BgpMessage v) = refl
 value-size size (Information i) = refl
-
-pub size-same : (t : RouteMirroringTlv) → 4 + entryOf t .size ≡ 4 + t .«info_len»
-size-same t = ap (λ (n : ℕ). 4 + n) (value-size (t .«info_len») (valueOf t))
-
--- ---- the bytes of one TLV alone, as the kit wants them
-abbrev pub oneOf : List ℕ → RouteMirroringTlv → List ℕ
-oneOf b t = oneTlv b (entryOf t)
 
 put-same : (b : List ℕ) (size : ℕ) (x : RouteMirroringValue) (r : List ℕ) → put (valuePart b size x) r ≡ oneTlv b (valueEntry size x) ++ r
 unfolding be
 put-same b size (BgpMessage v) r = refl
 put-same b size (Information i) r = refl
 
-pub bodied : Bodied writer oneOf
-bodied =
+pub entries : Entries writer entryOf
+entries =
     record {
       put-is = λ b t r. put-same b (t .«info_len») (valueOf t) r;
-      length-is = λ b n t e.
-          entry-long b (entryOf t) (both (hasHeader (entryOf t .size) (entryOf t .value)) _ (both-of (length b) t e .1) .1)
-          ∙ size-same t;
+      fine = λ room after t e. both (hasHeader (entryOf t .size) (entryOf t .value)) _ (both-of room t e .1) .1;
+      size-is = λ t. ap (λ (n : ℕ). 4 + n) (value-size (t .«info_len») (valueOf t));
     }
 
--- ---- nothing behind them is theirs
-abbrev longOf : Tlv → ℕ
+-- ---- how long an item is
+abbrev pub longOf : Tlv → ℕ
 longOf (bgpMessage size value) = 4 + length value
 longOf (information size code) = 6
 
-put-long : (t : Tlv) (r : List ℕ) → length (put t r) ≡ longOf t + length r
+pub put-long : (t : Tlv) (r : List ℕ) → length (put t r) ≡ longOf t + length r
 unfolding be
 put-long (bgpMessage size value) r = omega (arith, length-append value r)
 put-long (information size code) r = omega arith
-
-pub no-tail : (l : List Tlv) (z : List ℕ) → joinAll put l z ≡ joinAll put l [] → z ≡ []
-no-tail = Walk.no-tail put longOf put-long

@@ -1,5 +1,5 @@
 -- What a user of the writer of the Route Monitoring body relies on. Assumes nothing.
-use mathlib.Core.Path.{_≡_, sym, ap, _∙_, subst}
+use mathlib.Core.Path.{_≡_, sym, ap, subst}
 use mathlib.Core.Bool.{true}
 use mathlib.Core.List.{List}
 use Prim.Native.Nat.{ℕ, _+_, _≤_}
@@ -7,7 +7,8 @@ use native.Mathlib.Omega.{arith}
 use lib.ListN.{length, take}
 use Rattle.wire.specs.Number as Number
 use Rattle.wire.specs.Bytes.{Bytes}
-use Rattle.wire.proofs.Views.{viewed-inside, length-part, bytes-viewed}
+use Rattle.wire.proofs.Views.{bytes-viewed}
+use Rattle.writing.proofs.Tlv.{view-long}
 use Rattle.writing.specs.Write.{lengthOf, Wrote}
 use Rattle.writing.specs.declared.WriteAnswer.{WriteAnswer}
 use Rattle.writing.specs.declared.WriteAnswer.the-variants.{Written}
@@ -32,7 +33,7 @@ pub record ReadsBack (width : AsnLength) (t : BmpPeerType) (m : RouteMonitoring)
   pub same : Same m b (messageOf (readRouteMonitoring width t s)) s
 
 long-bytes : (m : RouteMonitoring) (b : List ℕ) → m .«bgp_message» .place + m .«bgp_message» .length ≤ length b → length (bytesOf m b) ≡ m .«bgp_message» .length
-long-bytes m b h = ap length (viewed-inside b (m .«bgp_message») h) ∙ length-part b (m .«bgp_message» .place) (m .«bgp_message» .length) h
+long-bytes m b h = view-long b (m .«bgp_message») h
 
 reads-back : (width : AsnLength) (t : BmpPeerType) (m : RouteMonitoring) (b : List ℕ) → writable m (length b) ≡ true
     → length (bytesOf m b) ≤ Number.limit → ReadsBack width t m b (bytesOf m b)

@@ -1,6 +1,6 @@
 -- What `dataWritable` asks of data, both ways, and the bytes of data. Assumes nothing.
-use mathlib.Core.Path.{_≡_, refl, sym, ap, _∙_}
-use mathlib.Core.Bool.{Bool, true, false}
+use mathlib.Core.Path.{_≡_, sym, _∙_}
+use mathlib.Core.Bool.{true, false}
 use mathlib.Core.List.{List}
 use mathlib.Core.Logic.{_⊎_, inl, inr, ⊎-elim}
 use Prim.Native.Nat.{ℕ, _+_, _^_, _≤_, _<_}
@@ -8,12 +8,13 @@ use native.Mathlib.Omega.{arith}
 use borrow.Author.Tests.{ltb-true, eqb-true, eqb-false, lt-ltb, eq-eqb, ne-eqb}
 use lib.Dec.{ltb, eqb}
 use lib.ListN.{length}
-use Rattle.wire.specs.Bytes.{pick, be, Bytes}
+use Rattle.wire.specs.Bytes.{be, Bytes}
 use Rattle.wire.specs.declared.View.{View}
 use Rattle.wire.proofs.Bytes.{bytes-be, bytes-append}
-use Rattle.wire.proofs.Views.{length-part, viewed-inside, bytes-viewed}
+use Rattle.wire.proofs.Views.{bytes-viewed}
 use Rattle.writing.specs.Write.{tlvFits}
-use Rattle.writing.proofs.Tlv.{fits-of, fits-from, value-long}
+use Rattle.writing.proofs.Tests.{both, past}
+use Rattle.writing.proofs.Tlv.{view-long, fits-of, fits-from, value-long}
 use Rattle.stats_data.specs.Grammar.{GoodValue}
 use Rattle.stats_data.specs.Shown.{valueIn}
 use Rattle.stats_data_writer.specs.Write.{dataBytes, dataWritable}
@@ -41,75 +42,42 @@ pub record Fine (b : List ℕ) (kind size : ℕ) (d : StatsData) : Type 0 where
   pub size-is : length (dataBytes b d) ≡ size
   pub value-good : GoodValue (valueIn b d)
 
-module _ (b : List ℕ) (kind size : ℕ) where
-  none : {d : StatsData} → false ≡ true → Fine b kind size d
-  none q = let z : _≡_ {A = ℕ} 0 1 = cc in absurd (omega arith)
-
-  fine-counter : (n : ℕ) → dataWritable (length b) kind size (Counter n) ≡ true → Fine b kind size (Counter n)
-  unfolding dataWritable be
-  fine-counter n e = go (ltb kind (256 ^ 2)) refl (ltb n (256 ^ 4)) refl e
-    where
-      go : (x : Bool) → ltb kind (256 ^ 2) ≡ x → (y : Bool) → ltb n (256 ^ 4) ≡ y → pick x (pick y (eqb size 4) false) false ≡ true → Fine b kind size (Counter n)
-      go false hx y hy q = none q
-      go true hx false hy q = none q
-      go true hx true hy q =
-          let z = eqb-true size 4 q in
-          record { kind-fits = ltb-true kind (256 ^ 2) hx; size-fits = omega arith; size-is = sym z; value-good = ltb-true n (256 ^ 4) hy }
-
-  fine-gauge : (n : ℕ) → dataWritable (length b) kind size (Gauge n) ≡ true → Fine b kind size (Gauge n)
-  unfolding dataWritable be
-  fine-gauge n e = go (ltb kind (256 ^ 2)) refl (ltb n (256 ^ 8)) refl e
-    where
-      go : (x : Bool) → ltb kind (256 ^ 2) ≡ x → (y : Bool) → ltb n (256 ^ 8) ≡ y → pick x (pick y (eqb size 8) false) false ≡ true → Fine b kind size (Gauge n)
-      go false hx y hy q = none q
-      go true hx false hy q = none q
-      go true hx true hy q =
-          let z = eqb-true size 8 q in
-          record { kind-fits = ltb-true kind (256 ^ 2) hx; size-fits = omega arith; size-is = sym z; value-good = ltb-true n (256 ^ 8) hy }
-
-  fine-afi-safi-gauge : (afi safi n : ℕ) → dataWritable (length b) kind size (AfiSafiGauge afi safi n) ≡ true → Fine b kind size (AfiSafiGauge afi safi n)
-  unfolding dataWritable be
-  fine-afi-safi-gauge afi safi n e = go (ltb kind (256 ^ 2)) refl (ltb afi (256 ^ 2)) refl (ltb safi (256 ^ 1)) refl (ltb n (256 ^ 8)) refl e
-    where
-      go : (x : Bool) → ltb kind (256 ^ 2) ≡ x → (y : Bool) → ltb afi (256 ^ 2) ≡ y → (u : Bool) → ltb safi (256 ^ 1) ≡ u → (v : Bool) → ltb n (256 ^ 8) ≡ v
-          → pick x (pick y (pick u (pick v (eqb size 11) false) false) false) false ≡ true → Fine b kind size (AfiSafiGauge afi safi n)
-      go false hx y hy u hu v hv q = none q
-      go true hx false hy u hu v hv q = none q
-      go true hx true hy false hu v hv q = none q
-      go true hx true hy true hu false hv q = none q
-      go true hx true hy true hu true hv q =
-          let z = eqb-true size 11 q in
-          record {
-            kind-fits = ltb-true kind (256 ^ 2) hx;
-            size-fits = omega arith;
-            size-is = sym z;
-            value-good = (ltb-true afi (256 ^ 2) hy, ltb-true safi (256 ^ 1) hu, ltb-true n (256 ^ 8) hv);
-          }
-
-  fine-unknown : (v : View) → dataWritable (length b) kind size (Unknown v) ≡ true → Fine b kind size (Unknown v)
-  unfolding dataWritable
-  fine-unknown v e = go (eqb size 4) refl (eqb size 8) refl (eqb size 11) refl e
-    where
-      go : (x : Bool) → eqb size 4 ≡ x → (y : Bool) → eqb size 8 ≡ y → (u : Bool) → eqb size 11 ≡ u
-          → pick x false (pick y false (pick u false (tlvFits kind size v (length b)))) ≡ true → Fine b kind size (Unknown v)
-      go true hx y hy u hu q = none q
-      go false hx true hy u hu q = none q
-      go false hx false hy true hu q = none q
-      go false hx false hy false hu q =
-          let f = fits-of kind size v (length b) q in
-          let l = value-long kind size v b f in
-          record {
-            kind-fits = f .kind-fits;
-            size-fits = f .size-fits;
-            size-is = l;
-            value-good = record { not-4 = λ z. eqb-false size 4 hx (sym l ∙ z); not-8 = λ z. eqb-false size 8 hy (sym l ∙ z); not-11 = λ z. eqb-false size 11 hu (sym l ∙ z) };
-          }
-
-  pub fine-of : (d : StatsData) → dataWritable (length b) kind size d ≡ true → Fine b kind size d
-  fine-of (Counter n) e = fine-counter n e
-  fine-of (Gauge n) e = fine-gauge n e
-  fine-of (AfiSafiGauge afi safi n) e = fine-afi-safi-gauge afi safi n e
-  fine-of (Unknown v) e = fine-unknown v e
+pub fine-of : (b : List ℕ) (kind size : ℕ) (d : StatsData) → dataWritable (length b) kind size d ≡ true → Fine b kind size d
+unfolding dataWritable be
+fine-of b kind size (Counter n) e =
+    let k = both (ltb kind (256 ^ 2)) _ e in
+    let c = both (ltb n (256 ^ 4)) (eqb size 4) (k .1) in
+    let z = eqb-true size 4 (c .1) in
+    record { kind-fits = ltb-true kind (256 ^ 2) (k .0); size-fits = omega arith; size-is = sym z; value-good = ltb-true n (256 ^ 4) (c .0) }
+fine-of b kind size (Gauge n) e =
+    let k = both (ltb kind (256 ^ 2)) _ e in
+    let g = both (ltb n (256 ^ 8)) (eqb size 8) (k .1) in
+    let z = eqb-true size 8 (g .1) in
+    record { kind-fits = ltb-true kind (256 ^ 2) (k .0); size-fits = omega arith; size-is = sym z; value-good = ltb-true n (256 ^ 8) (g .0) }
+fine-of b kind size (AfiSafiGauge afi safi n) e =
+    let k = both (ltb kind (256 ^ 2)) _ e in
+    let a = both (ltb afi (256 ^ 2)) _ (k .1) in
+    let s = both (ltb safi (256 ^ 1)) _ (a .1) in
+    let g = both (ltb n (256 ^ 8)) (eqb size 11) (s .1) in
+    let z = eqb-true size 11 (g .1) in
+    record {
+      kind-fits = ltb-true kind (256 ^ 2) (k .0);
+      size-fits = omega arith;
+      size-is = sym z;
+      value-good = (ltb-true afi (256 ^ 2) (a .0), ltb-true safi (256 ^ 1) (s .0), ltb-true n (256 ^ 8) (g .0));
+    }
+fine-of b kind size (Unknown v) e =
+    let x = past (eqb size 4) _ e in
+    let y = past (eqb size 8) _ (x .1) in
+    let u = past (eqb size 11) (tlvFits kind size v (length b)) (y .1) in
+    let f = fits-of kind size v (length b) (u .1) in
+    let l = value-long kind size v b f in
+    record {
+      kind-fits = f .kind-fits;
+      size-fits = f .size-fits;
+      size-is = l;
+      value-good = record { not-4 = λ z. eqb-false size 4 (x .0) (sym l ∙ z); not-8 = λ z. eqb-false size 8 (y .0) (sym l ∙ z); not-11 = λ z. eqb-false size 11 (u .0) (sym l ∙ z) };
+    }
 
 -- the view of a raw value lies inside b
 abbrev pub InsideData : List ℕ → StatsData → Type 0
@@ -130,10 +98,9 @@ fine-from b kind size (AfiSafiGauge afi safi n) f h =
     (eq-eqb size 11 (sym (f .size-is)))
 fine-from b kind size (Unknown v) f h =
     let g = f .value-good in
-    let long = ap length (viewed-inside b v h) ∙ length-part b (v .place) (v .length) h in
     no-other-form (length b) kind size v
     (⊎-elim (λ e. g .not-4 (f .size-is ∙ e)) (⊎-elim (λ e. g .not-8 (f .size-is ∙ e)) (λ e. g .not-11 (f .size-is ∙ e))))
-    ∙ fits-from kind size v (length b) (record { kind-fits = f .kind-fits; size-fits = f .size-fits; view-is = sym long ∙ f .size-is; within = h })
+    ∙ fits-from kind size v (length b) (record { kind-fits = f .kind-fits; size-fits = f .size-fits; view-is = sym (view-long b v h) ∙ f .size-is; within = h })
 
 -- ---- the bytes of data
 pub data-bytes : (b : List ℕ) → Bytes b → (d : StatsData) → Bytes (dataBytes b d)

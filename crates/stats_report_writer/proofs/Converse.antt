@@ -7,16 +7,15 @@ use native.Mathlib.Omega.{arith}
 use borrow.Author.Tests.{le-ltb, eq-eqb}
 use lib.ListN.{length, getD, replicate}
 use lib.Seq.{length-take-le}
-use Rattle.wire.specs.Bytes.{Bytes, none}
-use Rattle.wire.specs.Parts.{joinAll, EachGood, AllAt, shownFrom}
+use Rattle.wire.specs.Bytes.{Bytes}
+use Rattle.wire.specs.Parts.{EachGood, AllAt, shownFrom}
 use Rattle.wire.proofs.Bytes.{bytes-be, bytes-append}
 use Rattle.wire.proofs.Tlv.{put-tlv-long}
-use Rattle.wire.proofs.Walk.{no-tail}
 use Rattle.wire.specs.Exactly.{Shows}
 use Rattle.stats_report.specs.Read.{reader}
 use Rattle.writing.specs.Table.{parts, joined, allOk}
-use Rattle.writing.proofs.Table.{kept-each}
-use Rattle.writing.proofs.Trip.{parts-back}
+use Rattle.writing.proofs.Table.{kept-each, bytes-joined}
+use Rattle.writing.proofs.Trip.{table-good}
 use Rattle.stats_data.specs.Grammar.{valueBytes}
 use Rattle.stats_data.specs.Shown.{afiOf, safiOf, numberOf, valueIn}
 use Rattle.stats_data_writer.proofs.Written.{fine-from, InsideData, data-bytes}
@@ -28,7 +27,7 @@ use Rattle.stats_report.specs.declared.StatsReport.{StatsReport}
 use Rattle.stats_report.specs.declared.StatsAnswer.{StatsAnswer}
 use Rattle.stats_report.proofs.Shows.{ViewAt}
 use Rattle.stats_report_writer.proofs.Trip.{ReadsBack}
-use Rattle.stats_report_writer.proofs.Written.{own-from}
+use Rattle.stats_report_writer.proofs.Written.{own-from, bodied}
 use Rattle.stats_report.proofs.Laws.{behind}
 
 abbrev pub Inside : List ℕ → StatCounter → Type 0
@@ -74,14 +73,10 @@ all-plain b s r (t ∷ k) (x ∷ l) at n v h zero e = one-plain b s at x t (v .0
 all-plain b s r (t ∷ k) (x ∷ l) at n v h (suc i) e =
     all-plain b s r k l (at + sizeOf x) (omega arith) (v .1) (λ j f. h (suc j) (omega arith)) i (omega arith)
 
-bytes-joined : (b : List ℕ) → Bytes b → (l : List StatCounter) → Bytes (joined writer b l)
-bytes-joined b p [] = none
-bytes-joined b p (t ∷ l) =
-    bytes-append (bytes-be 2 (t .kind))
-    (bytes-append (bytes-be 2 (t .«stat_len»)) (bytes-append (data-bytes b p (dataIn t)) (bytes-joined b p l)))
-
 pub bytes-written : (m : StatsReport) (b : List ℕ) → Bytes b → Bytes (bytesOf m b)
-bytes-written m b p = bytes-append (bytes-be 4 (m .«stats_count»)) (bytes-joined b p (kept m))
+bytes-written m b p =
+    bytes-append (bytes-be 4 (m .«stats_count»))
+    (bytes-joined writer bodied b (λ t. bytes-append (bytes-be 2 (t .kind)) (bytes-append (bytes-be 2 (t .«stat_len»)) (data-bytes b p (dataIn t)))) (kept m))
 
 pub writable-from : (m : StatsReport) (b : List ℕ) → length (m .counters) ≡ places
     → ((i : ℕ) → i < m .count → Inside b (getD (m .counters) i zeroCounter))
@@ -98,13 +93,10 @@ writable-from m b long inside q x view-so r =
     let rest = replicate (places - length (q .stats)) zeroCounter in
     let same-kept : (i : ℕ) → i < length (kept m) → SameCounter (getD (kept m) i zeroCounter) b (getD (shownFrom sizeOf entry 4 (q .stats) ++ rest) i zeroCounter) s =
     kept-each (λ i t. SameCounter t b (getD (shown q .report .counters) i zeroCounter) s) (m .counters) (m .count) zeroCounter (same .counter-same) in
-    let each : q .stats ≡ parts writer b (kept m) =
-    parts-back writer sizeOf entry (ViewAt s) b (λ t u. SameCounter t b u s) zeroCounter (λ at x t. one-part b s at x t)
-    rest (kept m) (q .stats) 4 (k ∙ n) v same-kept in
-    let z : q .tail ≡ [] =
-    no-tail putStat (λ t. 4 + length (valueBytes (t .value))) (λ t. put-tlv-long (asTlv t)) (parts writer b (kept m)) (q .tail)
-    (ap (λ (l : List Stat). joinAll putStat l (q .tail)) (sym each) ∙ behind (q .count) (m .«stats_count») _ _ (x .reading .joined)) in
-    let good : EachGood putStat GoodStat (parts writer b (kept m)) [] =
-    subst (λ (l : List Stat). EachGood putStat GoodStat l []) each (subst (EachGood putStat GoodStat (q .stats)) z (x .reading .is-good .each)) in
+    let good =
+    table-good writer sizeOf entry (ViewAt s) b (λ t u. SameCounter t b u s) zeroCounter (one-part b s)
+    rest (m .counters) (m .count) 4 (q .stats) (omega (arith, long, few)) n v (same .counter-same)
+    (λ t. 4 + length (valueBytes (t .value))) (λ t. put-tlv-long (asTlv t)) GoodStat (q .tail)
+    (behind (q .count) (m .«stats_count») _ _ (x .reading .joined)) (x .reading .is-good .each) in
     rw (le-ltb places (m .count) few, eq-eqb (m .«stats_count») (m .count) count-is)
     (all-fine b (kept m) good (kept-each (λ i. Inside b) (m .counters) (m .count) zeroCounter inside) (all-plain b s rest (kept m) (q .stats) 4 (k ∙ n) v same-kept))

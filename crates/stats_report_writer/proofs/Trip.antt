@@ -4,14 +4,14 @@ use mathlib.Core.Bool.{true}
 use mathlib.Core.List.{List}
 use Prim.Native.Nat.{ℕ, _+_, _≤_}
 use native.Mathlib.Omega.{arith}
-use lib.ListN.{length, getD}
-use lib.Seq.{getD-take, length-take-le}
+use lib.ListN.{length}
+use lib.Seq.{length-take-le}
 use Rattle.wire.specs.Number as Number
 use Rattle.wire.specs.Bytes.{Bytes, none}
 use Rattle.wire.specs.Parts.{AllAt}
 use Rattle.writing.specs.Table.{joined, allOk}
 use Rattle.writing.proofs.Table.{all-good, length-parts}
-use Rattle.writing.proofs.Trip.{each-same, end-sizes}
+use Rattle.writing.proofs.Trip.{table-same, end-sizes}
 use Rattle.stats_data_writer.proofs.Written.{data-bytes}
 use Rattle.stats_report.specs.Grammar.{GoodStat, Good, places, sizeOf}
 use Rattle.stats_report.specs.Shown.{zeroCounter, entry, dataIn, shown}
@@ -62,7 +62,6 @@ pub reads-back : (m : StatsReport) (b : List ℕ) → length (m .counters) ≡ p
     → ReadsBack m b (bytesOf m b)
 reads-back m b long x a v =
     let s = bytesOf m b in
-    let k : length (kept m) ≡ m .count = length-take-le (m .count) (m .counters) (omega (arith, long, x .few)) in
     record {
       read-good = ap (λ (y : StatsAnswer). y .refusal .number) a;
       whole = ap (λ (y : StatsAnswer). y .stop) a ∙ end-sizes writer sizeOf entry (ViewAt s) b (λ n t o. refl) (kept m) 4 (x .fine)
@@ -70,9 +69,7 @@ reads-back m b long x a v =
       same = subst (λ (y : StatsAnswer). Same m b (y .report) s) (sym a) (record {
         stats-count-same = refl;
         count-same = sym (parts-count m b long (x .few));
-        counter-same = λ i h.
-            subst (λ (t : StatCounter). SameCounter t b (getD (shown (readingOf m b) .report .counters) i zeroCounter) s)
-            (getD-take (m .count) (m .counters) i zeroCounter h)
-            (each-same writer sizeOf entry (ViewAt s) b (λ t u. SameCounter t b u s) zeroCounter (same-counter b s) _ (kept m) 4 i (x .fine) v (omega (arith, k, h)));
+        counter-same = table-same writer sizeOf entry (ViewAt s) b (λ t u. SameCounter t b u s) zeroCounter (same-counter b s) _ (m .counters) (m .count) 4
+            (omega (arith, long, x .few)) (x .fine) v;
       });
     }

@@ -14,6 +14,7 @@ use denote.Laws.{Is}
 use denote.Struct.Laws as Struct
 use Rattle.wire.specs.Bytes.{pick, be}
 use Rattle.writing.specs.Table.{allOk, sizes}
+use Rattle.writing.proofs.Tests.{both, past}
 use Rattle.writing.proofs.Sets.{length-tlv}
 use Rattle.writing.proofs.Table.{Bodied, length-joined}
 use Rattle.wire.specs.View.{view}
@@ -60,10 +61,6 @@ pub record Own (place : ℕ) (t : StatCounter) (v : Value) : Type 0 where
   pub afi-is : t .afi ≡ afiOf v
   pub safi-is : t .safi ≡ safiOf v
   pub number-is : OneOf numbered (t .«stat_len») → t .value ≡ numberOf place v
-
-both : (x y : Bool) → pick x y false ≡ true → (x ≡ true) × (y ≡ true)
-both true y e = (refl, e)
-both false y e = let z : _≡_ {A = ℕ} 0 1 = cc in absurd (omega arith)
 
 -- the parts of a form without an AFI
 pub zeros : (t : StatCounter) (x : Bool) → pick (eqb (t .afi) 0) (pick (eqb (t .safi) 0) x false) false ≡ true → (t .afi ≡ 0) × (t .safi ≡ 0) × (x ≡ true)
@@ -128,13 +125,10 @@ pub record Writes (m : StatsReport) (bufferLength : ℕ) : Type 0 where
   pub fine : allOk writer bufferLength (kept m) ≡ true
 
 pub writes-of : (m : StatsReport) (bufferLength : ℕ) → writable m bufferLength ≡ true → Writes m bufferLength
-writes-of m bufferLength e = go (ltb places (m .count)) refl (eqb (m .«stats_count») (m .count)) refl e
-  where
-    go : (x : Bool) → ltb places (m .count) ≡ x → (y : Bool) → eqb (m .«stats_count») (m .count) ≡ y
-        → pick x false (pick y (allOk writer bufferLength (kept m)) false) ≡ true → Writes m bufferLength
-    go true hx y hy q = let z : _≡_ {A = ℕ} 0 1 = cc in absurd (omega arith)
-    go false hx false hy q = let z : _≡_ {A = ℕ} 0 1 = cc in absurd (omega arith)
-    go false hx true hy q = record { few = ltb-false places (m .count) hx; count-is = eqb-true (m .«stats_count») (m .count) hy; fine = q }
+writes-of m bufferLength e =
+    let n = past (ltb places (m .count)) _ e in
+    let c = both (eqb (m .«stats_count») (m .count)) (allOk writer bufferLength (kept m)) (n .1) in
+    record { few = ltb-false places (m .count) (n .0); count-is = eqb-true (m .«stats_count») (m .count) (c .0); fine = c .1 }
 
 pub length-bytes : (m : StatsReport) (b : List ℕ) → Writes m (length b) → length (bytesOf m b) ≡ 4 + sizes writer (kept m)
 unfolding be

@@ -1,6 +1,6 @@
 -- No record is refused that would be read back as itself, where its views lie inside the buffer and its Reasons have length 2.
 -- Assumes nothing.
-use mathlib.Core.Path.{_≡_, refl, sym, ap, _∙_, subst}
+use mathlib.Core.Path.{_≡_, refl, sym, _∙_, subst}
 use mathlib.Core.Bool.{Bool, true, false}
 use mathlib.Core.List.{List, [], _∷_, _++_}
 use Prim.Native.Nat.{ℕ, zero, suc, _+_, _-_, _≤_, _<_}
@@ -9,15 +9,14 @@ use borrow.Author.Tests.{le-ltb, eqb-true, eqb-false}
 use lib.Dec.{eqb}
 use lib.ListN.{length, getD, replicate}
 use Rattle.wire.specs.View.{viewed}
-use Rattle.wire.specs.Parts.{joinAll, shownFrom, EachGood, AllAt}
+use Rattle.wire.specs.Parts.{shownFrom, EachGood, AllAt}
 use Rattle.wire.specs.Tlv.{putTail}
 use Rattle.wire.proofs.Tlv.{put-tlv-long}
-use Rattle.wire.proofs.Walk.{no-tail}
 use Rattle.wire.specs.Exactly.{Shows}
 use Rattle.termination_message.specs.Read.{reader}
 use Rattle.writing.specs.Table.{parts, joined, allOk}
 use Rattle.writing.proofs.Table.{kept-each}
-use Rattle.writing.proofs.Trip.{table-back}
+use Rattle.writing.proofs.Trip.{table-good}
 use Rattle.tlv_table.proofs.Written.{good-part}
 use Rattle.termination_message.specs.Grammar.{Tlv, string, reason, put, sizeOf, ReadString, ReadTlv, Reading, join, places}
 use Rattle.termination_message.specs.Shown.{textOf, zeroTlv, entry}
@@ -95,14 +94,10 @@ writable-from m b full inside two q x values r =
     let same = subst (λ (a : TerminationAnswer). Same m b (a .message) s) (x .shown-so) (r .same) in
     let few : m .count ≤ places = omega (arith, same .count-same, x .reading .fits) in
     let v : AllAt sizeOf (ValueAt s) 0 (q .tlvs) = subst (λ (z : List ℕ). AllAt sizeOf (ValueAt z) 0 (q .tlvs)) (x .reading .joined) values in
-    let each : q .tlvs ≡ parts writer b (kept m) =
-    table-back writer sizeOf entry (ValueAt s) b (λ t u. SameTlv t b u s) zeroTlv
-    (one-part b s)
-    (replicate (places - length (q .tlvs)) zeroTlv) (m .tlvs) (m .count) (q .tlvs) (omega (arith, full, few)) (same .count-same) v (same .tlv-same) in
-    let z : putTail (q .tail) ≡ [] =
-    no-tail put long put-long (parts writer b (kept m)) (putTail (q .tail)) (ap (λ (l : List Tlv). joinAll put l (putTail (q .tail))) (sym each) ∙ x .reading .joined) in
-    let good : EachGood put ReadTlv (parts writer b (kept m)) [] =
-    subst (λ (l : List Tlv). EachGood put ReadTlv l []) each (subst (EachGood put ReadTlv (q .tlvs)) z (x .reading .is-good .each)) in
+    let good =
+    table-good writer sizeOf entry (ValueAt s) b (λ t u. SameTlv t b u s) zeroTlv (one-part b s)
+    (replicate (places - length (q .tlvs)) zeroTlv) (m .tlvs) (m .count) 0 (q .tlvs) (omega (arith, full, few)) (same .count-same) v (same .tlv-same)
+    long put-long ReadTlv (putTail (q .tail)) (x .reading .joined) (x .reading .is-good .each) in
     let known : (i : ℕ) → i < m .count → getD (m .tlvs) i zeroTlv .kind ≤ 1 =
     λ i h. omega (arith, same .tlv-same i h .kind-same, kind-known (q .tlvs) 0 i (replicate (places - length (q .tlvs)) zeroTlv) (omega (arith, same .count-same))) in
     rw (le-ltb places (m .count) few)

@@ -12,11 +12,12 @@ use Rattle.writing.specs.declared.WriteAnswer.{WriteAnswer}
 use Rattle.writing.specs.declared.WriteAnswer.the-variants.{Written}
 use Rattle.writing.proofs.Answers.{front, wrote-determined}
 use Rattle.writing.proofs.Table.{length-parts, kept-of}
+use Rattle.tlv_table.proofs.Table.{all-bytes}
 use Rattle.termination_message.specs.Grammar.{places}
 use Rattle.termination_message.specs.Shown.{zeroTlv}
 use Rattle.termination_message_writer.specs.Write.{writer, kept, readingOf, bytesOf, writable}
 use Rattle.termination_message.specs.declared.TerminationMessage.{TerminationMessage}
-use Rattle.termination_message_writer.proofs.Written.{all-bytes}
+use Rattle.termination_message_writer.proofs.Written.{entries}
 use Rattle.termination_message_writer.proofs.Trip.{good-of, ReadsBack, reads-back}
 use Rattle.termination_message_writer.proofs.Converse.{Inside, ReasonTwo, writable-from}
 use Rattle.termination_message.proofs.Promises.{sound, complete, views}
@@ -39,7 +40,7 @@ pub only-writable : (m : TerminationMessage) (b : List ℕ) → Bytes b → leng
     → ((i : ℕ) → i < m .count → Inside b (getD (m .tlvs) i zeroTlv)) → ((i : ℕ) → i < m .count → ReasonTwo (getD (m .tlvs) i zeroTlv))
     → ReadsBack m b (bytesOf m b) → writable m (length b) ≡ true
 only-writable m b p long inside two r =
-    let q = sound (bytesOf m b) (all-bytes b p (kept m)) (r .read-good) in
+    let q = sound (bytesOf m b) (all-bytes entries b p (kept m)) (r .read-good) in
     writable-from m b long inside two (q .0) (q .1) (views (q .0) (q .1 .reading .is-good)) r
 
 -- Two answers of the writer to the same record, buffer and output are equal, and so are the outputs that it leaves.

@@ -14,6 +14,7 @@ use Rattle.wire.proofs.Tlv.{tlv-length}
 use Rattle.writing.specs.Table.{joined, allOk}
 use Rattle.writing.proofs.Table.{all-good, length-parts, length-sizes, length-joined, Kept}
 use Rattle.writing.proofs.Trip.{table-same, end-sizes}
+use Rattle.tlv_table.proofs.Table.{bodied}
 use Rattle.tlv_table.proofs.Written.{part-good}
 use Rattle.termination_message.specs.Grammar.{Tlv, sizeOf, ReadTlv, Good, places}
 use Rattle.termination_message.specs.Shown.{textOf, zeroTlv, entry, shown}
@@ -22,7 +23,7 @@ use Rattle.termination_message_writer.specs.Write.{partOf, tlvWritable, 
 use Rattle.termination_message.specs.declared.TerminationTlv.{TerminationTlv}
 use Rattle.termination_message.specs.declared.TerminationMessage.{TerminationMessage}
 use Rattle.termination_message.specs.declared.TerminationAnswer.{TerminationAnswer}
-use Rattle.termination_message_writer.proofs.Written.{part-text, part-code, Fine, a-text, a-code, fine-of, bodied}
+use Rattle.termination_message_writer.proofs.Written.{part-text, part-code, Fine, a-text, a-code, fine-of, entries}
 use Rattle.termination_message.proofs.Shows.{ValueAt}
 
 -- a code's type is no String's
@@ -43,7 +44,7 @@ read-tlv : (b : List ℕ) → Bytes b → (t : TerminationTlv) (l : List Termina
     → ReadTlv (partOf b t) (joined writer b l)
 read-tlv b p t l e w =
     let n = length-sizes writer (λ u. omega arith) l in
-    read-fine b p (length l) t (joined writer b l) (omega (arith, n, length-joined writer bodied b l w)) (fine-of (length b) (length l) t e)
+    read-fine b p (length l) t (joined writer b l) (omega (arith, n, length-joined writer (bodied entries) b l w)) (fine-of (length b) (length l) t e)
 
 pub good-of : (m : TerminationMessage) (b : List ℕ) → Bytes b → allOk writer (length b) (kept m) ≡ true → Good (readingOf m b)
 good-of m b p e =
@@ -87,9 +88,9 @@ reads-back m b long x a v =
       read-good = ap (λ (y : TerminationAnswer). y .refusal .number) a;
       whole = ap (λ (y : TerminationAnswer). y .stop) a
           ∙ end-sizes writer sizeOf entry (ValueAt s) b (λ n t o. size-same b n t (fine-of (length b) n t o)) (kept m) 0 (x .fine)
-          ∙ omega (arith, length-joined writer bodied b (kept m) (x .fine));
+          ∙ omega (arith, length-joined writer (bodied entries) b (kept m) (x .fine));
       same = subst (λ (y : TerminationAnswer). Same m b (y .message) s) (sym a) (record {
         count-same = sym (length-parts writer b (kept m) ∙ length-take-le (m .count) (m .tlvs) few);
-        tlv-same = table-same writer sizeOf entry (ValueAt s) b (λ t u. SameTlv t b u s) zeroTlv (same-tlv b s) _ (m .tlvs) (m .count) few (x .fine) v;
+        tlv-same = table-same writer sizeOf entry (ValueAt s) b (λ t u. SameTlv t b u s) zeroTlv (same-tlv b s) _ (m .tlvs) (m .count) 0 few (x .fine) v;
       });
     }

@@ -12,18 +12,14 @@ use Rattle.wire.specs.View.{viewed}
 use Rattle.wire.specs.Tlv.{GoodTlv}
 use Rattle.wire.specs.declared.View.{View}
 use Rattle.wire.proofs.Bytes.{length-be, bytes-be, bytes-append}
-use Rattle.wire.proofs.Views.{viewed-inside, length-part, bytes-viewed}
+use Rattle.wire.proofs.Views.{bytes-viewed}
 use Rattle.writing.proofs.Sets.{length-tlv}
 use Rattle.writing.proofs.Tests.{both}
-use Rattle.writing.proofs.Tlv.{fits-of, fits-from, value-long, tlv-good}
+use Rattle.writing.proofs.Tlv.{view-long, fits-of, fits-from, value-long, tlv-good}
 use Rattle.tlv_table.specs.Tlvs.{valueWritable, entryWritable, entryWritableBefore, valueBytes, oneTlv}
 use Rattle.tlv_table.specs.declared.TlvValue.{TlvValue}
 use Rattle.tlv_table.specs.declared.TlvValue.the-variants.{Part, Number}
 use Rattle.tlv_table.specs.declared.TlvEntry.{TlvEntry}
-
--- ---- a view that lies inside shows as many bytes as it says
-pub view-long : (b : List ℕ) (v : View) → v .place + v .length ≤ length b → length (viewed b v) ≡ v .length
-view-long b v h = ap length (viewed-inside b v h) ∙ length-part b (v .place) (v .length) h
 
 -- ---- an entry that shows a part of the buffer is writable where its reading is a good TLV and its view lies inside
 module _ (kind size : ℕ) (v : View) (b : List ℕ) where
@@ -79,7 +75,3 @@ value-is-bytes b p (Number n) = bytes-be 2 n
 
 pub entry-bytes : (b : List ℕ) → Bytes b → (t : TlvEntry) → Bytes (oneTlv b t)
 entry-bytes b p t = bytes-append (bytes-be 2 (t .kind)) (bytes-append (bytes-be 2 (t .size)) (value-is-bytes b p (t .value)))
-
--- ---- what tlv_length says of the entry that a writer made of its own
-pub length-of : {e f : TlvEntry} → e ≡ f → {n : ℕ} → n ≡ 4 + e .size → n ≡ 4 + f .size
-length-of p q = q ∙ ap (λ (t : TlvEntry). 4 + t .size) p

@@ -82,9 +82,8 @@ front {ok} {s} {out} {out′} {r} wrote w short fits =
     }
 
 -- ---- a writer whose record is not ok
-pub refused-so : (ok : Bool) (s out : List ℕ) → ok ≡ false → (a : WriteAnswer) → a ≡ writeAnswer false 0 (length out)
-    → Wrote ok s out a out
-refused-so ok s out e a asked = record { answered = asked ∙ sym (rw e); left = rw e }
+pub refused-so : {ok : Bool} {s out : List ℕ} {a : WriteAnswer} → ok ≡ false → a ≡ writeAnswer false 0 (length out) → Wrote ok s out a out
+refused-so e asked = record { answered = asked ∙ sym (rw e); left = rw e }
 
 -- ---- any two answers, and any two outputs, of one writer for the same record and output
 pub wrote-determined : {ok : Bool} {s out : List ℕ} {r q : WriteAnswer} {o p : List ℕ} → Wrote ok s out r o → Wrote ok s out q p → (r ≡ q) × (o ≡ p)

@@ -14,6 +14,10 @@ use Rattle.wire.proofs.Views.{inside-is, viewed-inside, length-part, bytes-view
 use Rattle.writing.specs.Write.{tlvFits}
 use Rattle.writing.proofs.Tests.{both}
 
+-- a view that lies inside shows as many bytes as it says
+pub view-long : (b : List ℕ) (v : View) → v .place + v .length ≤ length b → length (viewed b v) ≡ v .length
+view-long b v h = ap length (viewed-inside b v h) ∙ length-part b (v .place) (v .length) h
+
 pub record TlvFits (kind size : ℕ) (v : View) (bufferLength : ℕ) : Type 0 where
   pub kind-fits : kind < 256 ^ 2
   pub size-fits : size < 256 ^ 2
@@ -41,7 +45,7 @@ fits-from kind size v bufferLength f =
 -- its reading is a good TLV
 module _ (kind size : ℕ) (v : View) (b : List ℕ) (f : TlvFits kind size v (length b)) where
   pub value-long : length (viewed b v) ≡ size
-  value-long = ap length (viewed-inside b v (f .within)) ∙ length-part b (v .place) (v .length) (f .within) ∙ f .view-is
+  value-long = view-long b v (f .within) ∙ f .view-is
 
   pub tlv-good : Bytes b → GoodTlv (record { kind = kind; size = size; value = viewed b v })
   tlv-good p =

@@ -1,14 +1,15 @@
 -- A table that was written and is read again: where each entry is shown as it was, all are. Assumes nothing.
-use mathlib.Core.Path.{_≡_, refl, sym, ap₂, _∙_, subst}
+use mathlib.Core.Path.{_≡_, refl, sym, ap, ap₂, _∙_, subst}
 use mathlib.Core.List.{List, [], _∷_, _++_}
 use mathlib.Core.Bool.{true}
 use Prim.Native.Nat.{ℕ, zero, suc, _+_, _≤_, _<_}
 use native.Mathlib.Omega.{arith}
 use lib.ListN.{length, take, getD}
 use lib.Seq.{getD-take, length-take-le}
-use Rattle.wire.specs.Parts.{shownFrom, endFrom, AllAt}
-use Rattle.writing.specs.Table.{Writer, parts, allOk, sizes}
-use Rattle.writing.proofs.Table.{ok-head, kept-below, kept-at}
+use Rattle.wire.specs.Parts.{joinAll, EachGood, shownFrom, endFrom, AllAt}
+use Rattle.wire.proofs.Walk.{no-tail}
+use Rattle.writing.specs.Table.{Writer, parts, joined, allOk, sizes}
+use Rattle.writing.proofs.Table.{ok-head, kept-each}
 
 module _ (W : Writer) (size : W .Item → ℕ) (entry : ℕ → W .Item → W .Entry) (Seen : ℕ → W .Item → Type 0) (b : List ℕ) where
   -- S t u: the entry u shows what t shows
@@ -46,16 +47,23 @@ module _ (W : Writer) (size : W .Item → ℕ) (entry : ℕ → W .Item → W .E
   -- ---- both for the first n entries of a table
   pub table-same : (S : W .Entry → W .Entry → Type 0) (d : W .Entry)
       → ((n at : ℕ) (t : W .Entry) → W .ok (length b) n t ≡ true → Seen at (W .part b t) → S t (entry at (W .part b t)))
-      → (r table : List (W .Entry)) (n : ℕ) → n ≤ length table → allOk W (length b) (take n table) ≡ true → AllAt size Seen 0 (parts W b (take n table))
-      → (i : ℕ) → i < n → S (getD table i d) (getD (shownFrom size entry 0 (parts W b (take n table)) ++ r) i d)
-  table-same S d f r table n few w v i h =
-      subst (λ (t : W .Entry). S t (getD (shownFrom size entry 0 (parts W b (take n table)) ++ r) i d)) (getD-take n table i d h)
-      (each-same S d f r (take n table) 0 i w v (omega (arith, length-take-le n table few, h)))
+      → (r table : List (W .Entry)) (n at : ℕ) → n ≤ length table → allOk W (length b) (take n table) ≡ true → AllAt size Seen at (parts W b (take n table))
+      → (i : ℕ) → i < n → S (getD table i d) (getD (shownFrom size entry at (parts W b (take n table)) ++ r) i d)
+  table-same S d f r table n at few w v i h =
+      subst (λ (t : W .Entry). S t (getD (shownFrom size entry at (parts W b (take n table)) ++ r) i d)) (getD-take n table i d h)
+      (each-same S d f r (take n table) at i w v (omega (arith, length-take-le n table few, h)))
 
-  pub table-back : (S : W .Entry → W .Entry → Type 0) (d : W .Entry)
-      → ((at : ℕ) (x : W .Item) (t : W .Entry) → Seen at x → S t (entry at x) → x ≡ W .part b t)
-      → (r table : List (W .Entry)) (n : ℕ) (l : List (W .Item)) → n ≤ length table → n ≡ length l → AllAt size Seen 0 l
-      → ((i : ℕ) → i < n → S (getD table i d) (getD (shownFrom size entry 0 l ++ r) i d)) → l ≡ parts W b (take n table)
-  table-back S d f r table n l few e v h =
-      parts-back S d f r (take n table) l 0 (length-take-le n table few ∙ e) v
-      (λ i k. subst (λ (t : W .Entry). S t (getD (shownFrom size entry 0 l ++ r) i d)) (sym (kept-at table n i d k)) (h i (kept-below table n i k)))
+  module _ (S : W .Entry → W .Entry → Type 0) (d : W .Entry) (f : (at : ℕ) (x : W .Item) (t : W .Entry) → Seen at x → S t (entry at x) → x ≡ W .part b t)
+      (r table : List (W .Entry)) (n at : ℕ) (l : List (W .Item)) (few : n ≤ length table) (e : n ≡ length l) (v : AllAt size Seen at l)
+      (h : (i : ℕ) → i < n → S (getD table i d) (getD (shownFrom size entry at l ++ r) i d)) where
+    pub table-back : l ≡ parts W b (take n table)
+    table-back =
+        parts-back S d f r (take n table) l at (length-take-le n table few ∙ e) v
+        (kept-each (λ i t. S t (getD (shownFrom size entry at l ++ r) i d)) table n d h)
+
+    -- so what was good of the items is good of what was written, which has no tail
+    pub table-good : (long : W .Item → ℕ) → ((x : W .Item) (y : List ℕ) → length (W .put x y) ≡ long x + length y) → (G : W .Item → List ℕ → Type 0) (z : List ℕ)
+        → joinAll (W .put) l z ≡ joined W b (take n table) → EachGood (W .put) G l z → EachGood (W .put) G (parts W b (take n table)) []
+    table-good long put-long G z j g =
+        let none : z ≡ [] = no-tail (W .put) long put-long (parts W b (take n table)) z (ap (λ (k : List (W .Item)). joinAll (W .put) k z) (sym table-back) ∙ j) in
+        subst (λ (k : List (W .Item)). EachGood (W .put) G k []) table-back (subst (EachGood (W .put) G l) none g)

@@ -63,7 +63,7 @@ write-answer-requires : tie.Need-write-answer-requires
 write-answer-requires c κs = search needs
 
 returns : tie.Need-returns
-returns c = refused-so _ (bytesOf (c .before .before .before .before .before .args .header) (now (c .before .before .before .before .before .args .buffer))) (now (c .before .before .before .before .before .args .out)) (sym (c .before .before .is-writable .ensures) ∙ not-true (c .before .before .is-writable .result) (c .before .if1 .taken)) _ (c .write-answer .ensures)
+returns c = refused-so (sym (c .before .before .is-writable .ensures) ∙ not-true (c .before .before .is-writable .result) (c .before .if1 .taken)) (c .write-answer .ensures)
 
 add-length : tie.Need-add-length
 add-length c = let w = short (c .before .before .before) in omega (arith, w .admin-short)

@@ -50,10 +50,7 @@ write-answer-requires : tie.Need-write-answer-requires
 write-answer-requires c κs = search needs
 
 returns : tie.Need-returns
-returns c =
-    let m = c .before .before .before .before .before .before .before .args .notification in
-    let b = now (c .before .before .before .before .before .before .before .args .buffer) in
-    refused-so _ (bytesOf m b) (now (c .before .before .before .before .before .before .before .args .out)) (sym (ok-is (c .before .before)) ∙ not-true (c .before .before .is-writable .result) (c .before .if1 .taken)) _ (c .write-answer .ensures)
+returns c = refused-so (sym (ok-is (c .before .before)) ∙ not-true (c .before .before .is-writable .result) (c .before .if1 .taken)) (c .write-answer .ensures)
 
 part-requires : tie.Need-part-requires
 part-requires c κs = search needs

@@ -4,20 +4,17 @@ use native.Mathlib.Omega.{arith}
 use denote.Ref.{now}
 use mathlib.Core.Path.{_≡_, sym, ap, _∙_}
 use Prim.Native.Nat.{_+_, _-_}
-use lib.ListN.{length, getD}
+use lib.ListN.{length}
 use lib.Seq.{sets, length-sets}
 use Rattle.wire.specs.Bytes.{Bytes}
 use Rattle.wire.proofs.Held.{slice-bytes, array-bytes}
-use Rattle.writing.specs.Write.{putAt}
 use Rattle.writing.proofs.Answers.{refused-so}
-use Rattle.writing.proofs.Passes.{Measured, Asked, Placed, measured-starts, measured-bad, measured-turn, measured-asks, asked-refused, asked-long, asked-room, asked-starts, asked-ends, placed-room, placed-turn}
-use Rattle.tlv_table.specs.Tlvs.{entryWritable, oneTlv}
-use Rattle.tlv_table.specs.declared.TlvEntry.{TlvEntry}
-use Rattle.tlv_table.proofs.Written.{length-of}
+use Rattle.writing.proofs.Passes.{Measured, Asked, Placed, measured-starts, measured-bad, measured-asks, asked-refused, asked-long, asked-room, asked-starts, asked-ends}
+use Rattle.tlv_table.proofs.Table.{bodied, entry-measured, entry-room, entry-placed, alone-judged}
 use Rattle.peer_up_notification.specs.Shown.{zeroTlv}
 use Rattle.peer_up_notification.proofs.Laws.{table-long}
-use Rattle.peer_up_notification_writer.specs.Write.{writer, tlvWritable, bytesOf, writable, endpointBytes, frontBytes, Typed}
-use Rattle.peer_up_notification_writer.proofs.Written.{bodied, FineFront, front-of, too-many, front-bad, tlvs-decide, writes-of, bytes-are, length-opens, length-front, front-put}
+use Rattle.peer_up_notification_writer.specs.Write.{writer, bytesOf, writable, endpointBytes, frontBytes, Typed}
+use Rattle.peer_up_notification_writer.proofs.Written.{entries, FineFront, front-of, too-many, front-bad, tlvs-decide, writes-of, bytes-are, length-opens, length-front, front-put}
 use Rattle.peer_up_notification_writer.proofs.write_peer_up_notification.Statement.{statement}
 use Rattle.peer_up_notification_writer.proofs.write_peer_up_notification.Tie as tie
 
@@ -53,10 +50,6 @@ fine c = front-of (c .before .before .before .before .before .before .before .be
 long : (c : tie.Else2 Inv-loop μ-loop Inv-loop2 μ-loop2) → length (frontBytes (c .before .before .before .before .before .before .before .before .args .t1) (now (c .before .before .before .before .before .before .before .before .args .buffer))) ≡ 20 + (c .before .before .before .before .before .before .before .before .args .t1 .«sent_open» .length + c .before .before .before .before .before .before .before .before .args .t1 .«received_open» .length)
 long c = length-front (c .before .before .before .before .before .before .before .before .args .t1) (now (c .before .before .before .before .before .before .before .before .args .buffer)) (fine c) (typed (c .before .before .before .before .before .before .before .before) .octets .many)
 
-judged-so : (c : tie.After-entry-writable Inv-loop μ-loop Inv-loop2 μ-loop2) → tlvWritable (length (now (c .before .before .before .before .before .before .before .before .before .before .before .before .before .before .before .args .buffer))) (getD (c .before .before .before .before .before .before .before .before .before .before .before .before .before .before .before .args .t1 .tlvs) (c .before .before .before .before .loop .i) zeroTlv) ≡ c .entry-writable .result
-judged-so c =
-    ap (entryWritable (length (now (c .before .before .before .before .before .before .before .before .before .before .before .before .before .before .before .args .buffer)))) (sym (c .before .entry-of .ensures)) ∙ sym (c .entry-writable .ensures)
-
 asked : (c : tie.After-write-answer4 Inv-loop μ-loop Inv-loop2 μ-loop2)
     → Asked writer (c .before .before .before .before .before .before .before .before .before .before .before .before .before .args .t1 .tlvs) (c .before .before .before .before .before .before .before .before .before .before .before .before .before .args .t1 .count) (now (c .before .before .before .before .before .before .before .before .before .before .before .before .before .args .buffer)) (writable (c .before .before .before .before .before .before .before .before .before .before .before .before .before .args .t1) (now (c .before .before .before .before .before .before .before .before .before .before .before .before .before .args .buffer))) (frontBytes (c .before .before .before .before .before .before .before .before .before .before .before .before .before .args .t1) (now (c .before .before .before .before .before .before .before .before .before .before .before .before .before .args .buffer))) (bytesOf (c .before .before .before .before .before .before .before .before .before .before .before .before .before .args .t1) (now (c .before .before .before .before .before .before .before .before .before .before .before .before .before .args .buffer))) (now (c .before .before .before .before .before .before .before .before .before .before .before .before .before .args .out)) (c .before .before .loop .length) (c .write-answer4 .result)
 asked c =
@@ -70,7 +63,7 @@ write-answer-requires : tie.Need-write-answer-requires Inv-loop μ-loop Inv-loop
 write-answer-requires c κs = search needs
 
 returns : tie.Need-returns Inv-loop μ-loop Inv-loop2 μ-loop2
-returns c = refused-so _ (bytesOf (c .before .before .before .before .before .before .before .args .t1) (now (c .before .before .before .before .before .before .before .args .buffer))) (now (c .before .before .before .before .before .before .before .args .out)) (too-many (c .before .before .before .before .before .before .before .args .t1) (now (c .before .before .before .before .before .before .before .args .buffer)) (c .before .if1 .taken)) _ (c .write-answer .ensures)
+returns c = refused-so (too-many (c .before .before .before .before .before .before .before .args .t1) (now (c .before .before .before .before .before .before .before .args .buffer)) (c .before .if1 .taken)) (c .write-answer .ensures)
 
 front-writable-requires : tie.Need-front-writable-requires Inv-loop μ-loop Inv-loop2 μ-loop2
 front-writable-requires c κs = search needs
@@ -80,8 +73,7 @@ write-answer-requires-2 c κs = search needs
 
 returns-2 : tie.Need-returns-2 Inv-loop μ-loop Inv-loop2 μ-loop2
 returns-2 c =
-    refused-so _ (bytesOf (c .before .before .before .before .before .before .before .before .before .args .t1) (now (c .before .before .before .before .before .before .before .before .before .args .buffer))) (now (c .before .before .before .before .before .before .before .before .before .args .out))
-    (front-bad (c .before .before .before .before .before .before .before .before .before .args .t1) (now (c .before .before .before .before .before .before .before .before .before .args .buffer)) (sym (c .before .before .front-writable .ensures) ∙ not-true (c .before .before .front-writable .result) (c .before .if2 .taken))) _ (c .write-answer2 .ensures)
+    refused-so (front-bad (c .before .before .before .before .before .before .before .before .before .args .t1) (now (c .before .before .before .before .before .before .before .before .before .args .buffer)) (sym (c .before .before .front-writable .ensures) ∙ not-true (c .before .before .front-writable .result) (c .before .if2 .taken))) (c .write-answer2 .ensures)
 
 add-front : tie.Need-add-front Inv-loop μ-loop Inv-loop2 μ-loop2
 add-front c = omega (arith, fine (c .before .before) .sent .size-fits, fine (c .before .before) .received .size-fits)
@@ -111,8 +103,7 @@ write-answer-requires-3 c κs = search needs
 
 returns-3 : tie.Need-returns-3 Inv-loop μ-loop Inv-loop2 μ-loop2
 returns-3 c =
-    refused-so _ (bytesOf (c .before .before .before .before .before .before .before .before .before .before .before .before .before .before .before .before .before .args .t1) (now (c .before .before .before .before .before .before .before .before .before .before .before .before .before .before .before .before .before .args .buffer))) (now (c .before .before .before .before .before .before .before .before .before .before .before .before .before .before .before .before .before .args .out))
-    (measured-bad (c .before .before .before .before .before .before .loop .inv) zeroTlv (c .before .before .before .before .before .loop-test .taken) (judged-so (c .before .before) ∙ not-true (c .before .before .entry-writable .result) (c .before .if3 .taken))) _ (c .write-answer3 .ensures)
+    refused-so (measured-bad (c .before .before .before .before .before .before .loop .inv) zeroTlv (c .before .before .before .before .before .loop-test .taken) (alone-judged _ (c .before .before .before .entry-of .ensures) (c .before .before .entry-writable .ensures) (not-true (c .before .before .entry-writable .result) (c .before .if3 .taken)))) (c .write-answer3 .ensures)
 
 tlv-length-requires : tie.Need-tlv-length-requires Inv-loop μ-loop Inv-loop2 μ-loop2
 tlv-length-requires c κs = search needs
@@ -128,8 +119,7 @@ loop-less c = search needs
 
 loop-again : tie.Need-loop-again Inv-loop μ-loop Inv-loop2 μ-loop2
 loop-again c =
-    measured-turn (c .before .before .before .before .before .before .loop .inv) zeroTlv (c .before .before .before .before .before .loop-test .taken) (judged-so (c .before .before) ∙ not-false (c .before .before .entry-writable .result) (c .before .if3 .left))
-    (length-of (c .before .before .before .entry-of .ensures) (c .tlv-length .ensures .0)) (c .tlv-length .ensures .1)
+    entry-measured entries (c .before .before .before .before .before .before .loop .inv) zeroTlv (c .before .before .before .before .before .loop-test .taken) (alone-judged _ (c .before .before .before .entry-of .ensures) (c .before .before .entry-writable .ensures) (not-false (c .before .before .entry-writable .result) (c .before .if3 .left))) (c .before .before .before .entry-of .ensures) (c .tlv-length .ensures)
 
 write-answer-requires-4 : tie.Need-write-answer-requires-4 Inv-loop μ-loop Inv-loop2 μ-loop2
 write-answer-requires-4 c κs = search needs
@@ -141,20 +131,20 @@ enum-told-2 : tie.Need-enum-told-2 Inv-loop μ-loop Inv-loop2 μ-loop2
 enum-told-2 c = search needs
 
 returns-4 : tie.Need-returns-4 Inv-loop μ-loop Inv-loop2 μ-loop2
-returns-4 c = asked-refused bodied (asked (c .before .before)) (c .enum-told2 .given .1)
+returns-4 c = asked-refused (bodied entries) (asked (c .before .before)) (c .enum-told2 .given .1)
 
 put-endpoints-requires : tie.Need-put-endpoints-requires Inv-loop μ-loop Inv-loop2 μ-loop2
-put-endpoints-requires c κs = omega (arith, asked-room bodied (asked (c .before .before .before)) (c .before .enum-told .given .1), long (c .before .before .before .before .before .before .before .before))
+put-endpoints-requires c κs = omega (arith, asked-room (bodied entries) (asked (c .before .before .before)) (c .before .enum-told .given .1), long (c .before .before .before .before .before .before .before .before))
 
 put-opens-requires : tie.Need-put-opens-requires Inv-loop μ-loop Inv-loop2 μ-loop2
 put-opens-requires c κs =
     let f = fine (c .before .before .before .before .before .before .before .before .before .before .before .before) in
     let n = length-opens (now (c .before .before .before .before .before .before .before .before .before .before .before .before .before .before .before .before .before .before .before .before .args .buffer)) (c .before .before .before .before .before .before .before .before .before .before .before .before .before .before .before .before .before .before .before .before .args .t1 .«sent_open») (c .before .before .before .before .before .before .before .before .before .before .before .before .before .before .before .before .before .before .before .before .args .t1 .«received_open») (f .sent) (f .received) in
     let same = ap length (c .before .before .before .put-endpoints .ensures) ∙ length-sets (now (c .before .before .before .before .before .before .before .before .before .before .before .before .before .before .before .before .before .before .before .before .args .out)) 0 (endpointBytes (c .before .before .before .before .before .before .before .before .before .before .before .before .before .before .before .before .before .before .before .before .args .t1 .«local_addr») (c .before .before .before .before .before .before .before .before .before .before .before .before .before .before .before .before .before .before .before .before .args .t1 .«local_port») (c .before .before .before .before .before .before .before .before .before .before .before .before .before .before .before .before .before .before .before .before .args .t1 .«remote_port»)) in
-    omega (arith, asked-room bodied (asked (c .before .before .before .before .before .before .before)) (c .before .before .before .before .before .enum-told .given .1), long (c .before .before .before .before .before .before .before .before .before .before .before .before), n, same)
+    omega (arith, asked-room (bodied entries) (asked (c .before .before .before .before .before .before .before)) (c .before .before .before .before .before .enum-told .given .1), long (c .before .before .before .before .before .before .before .before .before .before .before .before), n, same)
 
 loop2-holds : tie.Need-loop2-holds Inv-loop μ-loop Inv-loop2 μ-loop2
-loop2-holds c = asked-starts bodied (asked (c .before .before .before .before .before .before .before .before .before .before)) (c .before .before .before .before .before .before .before .before .enum-told .given .1) (front-there (c .before .before)) (sym (long (c .before .before .before .before .before .before .before .before .before .before .before .before .before .before .before)))
+loop2-holds c = asked-starts (bodied entries) (asked (c .before .before .before .before .before .before .before .before .before .before)) (c .before .before .before .before .before .before .before .before .enum-told .given .1) (front-there (c .before .before)) (sym (long (c .before .before .before .before .before .before .before .before .before .before .before .before .before .before .before)))
 
 mul-tlv-2 : tie.Need-mul-tlv-2 Inv-loop μ-loop Inv-loop2 μ-loop2
 mul-tlv-2 c = search needs
@@ -172,7 +162,7 @@ tlv-length-requires-2 : tie.Need-tlv-length-requires-2 Inv-loop μ-loop Inv-loop
 tlv-length-requires-2 c κs = search needs
 
 add-at : tie.Need-add-at Inv-loop μ-loop Inv-loop2 μ-loop2
-add-at c = omega (arith, placed-room bodied (c .before .before .before .before .before .before .before .before .loop2 .inv) zeroTlv (c .before .before .before .before .before .before .before .loop2-test .taken) .0, asked-long bodied (asked (c .before .before .before .before .before .before .before .before .before .before .before .before .before .before .before .before .before .before .before)) (front-there (c .before .before .before .before .before .before .before .before .before .before .before)) (c .before .before .before .before .before .before .before .before .loop2 .inv), c .before .before .before .before .before .before .before .before .before .before .before .before .before .before .before .before .before .before .before .before .before .before .before .before .before .before .before .before .before .before .before .before .good, length-of (c .before .before .before .before .before .entry-of2 .ensures) (c .tlv-length2 .ensures .0))
+add-at c = omega (arith, asked-long (bodied entries) (asked (c .before .before .before .before .before .before .before .before .before .before .before .before .before .before .before .before .before .before .before)) (front-there (c .before .before .before .before .before .before .before .before .before .before .before)) (c .before .before .before .before .before .before .before .before .loop2 .inv), c .before .before .before .before .before .before .before .before .before .before .before .before .before .before .before .before .before .before .before .before .before .before .before .before .before .before .before .before .before .before .before .before .good, entry-room entries (c .before .before .before .before .before .before .before .before .loop2 .inv) zeroTlv (c .before .before .before .before .before .before .before .loop2-test .taken) (c .before .before .before .before .before .entry-of2 .ensures) (c .tlv-length2 .ensures .0))
 
 add-k : tie.Need-add-k Inv-loop μ-loop Inv-loop2 μ-loop2
 add-k c = search needs
@@ -182,15 +172,14 @@ loop2-less c = search needs
 
 loop2-again : tie.Need-loop2-again Inv-loop μ-loop Inv-loop2 μ-loop2
 loop2-again c =
-    placed-turn bodied (c .before .before .before .before .before .before .before .before .loop2 .inv) zeroTlv (c .before .before .before .before .before .before .before .loop2-test .taken)
-    (c .before .before .before .put-entry .ensures ∙ ap (λ (e : TlvEntry). putAt (c .before .before .before .before .before .before .before .before .loop2 .out) (c .before .before .before .before .before .before .before .before .loop2 .at) (oneTlv (now (c .before .before .before .before .before .before .before .before .before .before .before .before .before .before .before .before .before .before .before .before .before .before .before .before .before .before .before .before .before .before .before .before .args .buffer)) e)) (c .before .before .before .before .before .entry-of2 .ensures))
-    (length-of (c .before .before .before .before .before .entry-of2 .ensures) (c .tlv-length2 .ensures .0))
+    entry-placed entries (c .before .before .before .before .before .before .before .before .loop2 .inv) zeroTlv (c .before .before .before .before .before .before .before .loop2-test .taken)
+    (c .before .before .before .before .before .entry-of2 .ensures) (c .tlv-length2 .ensures .0) (c .before .before .before .put-entry .ensures)
 
 same-length : tie.Need-same-length Inv-loop μ-loop Inv-loop2 μ-loop2
-same-length c = asked-long bodied (asked (c .before .before .before .before .before .before .before .before .before .before .before .before)) (front-there (c .before .before .before .before)) (c .before .loop2 .inv)
+same-length c = asked-long (bodied entries) (asked (c .before .before .before .before .before .before .before .before .before .before .before .before)) (front-there (c .before .before .before .before)) (c .before .loop2 .inv)
 
 returns-5 : tie.Need-returns-5 Inv-loop μ-loop Inv-loop2 μ-loop2
-returns-5 c = asked-ends bodied (asked (c .before .before .before .before .before .before .before .before .before .before .before .before)) (c .before .before .before .before .before .before .before .before .before .before .enum-told .given .1) (front-there (c .before .before .before .before)) (sym (long (c .before .before .before .before .before .before .before .before .before .before .before .before .before .before .before .before .before))) (c .before .loop2 .inv) (c .loop2-test .left)
+returns-5 c = asked-ends (bodied entries) (asked (c .before .before .before .before .before .before .before .before .before .before .before .before)) (c .before .before .before .before .before .before .before .before .before .before .enum-told .given .1) (front-there (c .before .before .before .before)) (sym (long (c .before .before .before .before .before .before .before .before .before .before .before .before .before .before .before .before .before))) (c .before .loop2 .inv) (c .loop2-test .left)
 
 pub write-peer-up-notification-spec : {M : Type 1} → statement M
 write-peer-up-notification-spec =

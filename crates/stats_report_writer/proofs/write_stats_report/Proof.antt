@@ -3,7 +3,6 @@ use borrow.Author.Tests.{not-true, not-false, lt-ltb, le-ltb, eq-eqb, ne-eqb}
 use native.Mathlib.Omega.{arith}
 use denote.Ref.{now}
 use mathlib.Core.Path.{_≡_, refl, sym, _∙_}
-use mathlib.Core.Bool.{false}
 use Prim.Native.Nat.{_-_}
 use lib.ListN.{length}
 use lib.Seq.{sets}
@@ -44,11 +43,7 @@ write-answer-requires : tie.Need-write-answer-requires Inv-loop μ-loop Inv-loop
 write-answer-requires c κs = search needs
 
 returns : tie.Need-returns Inv-loop μ-loop Inv-loop2 μ-loop2
-returns c =
-    let m = c .before .before .before .before .args .t1 in
-    let b = now (c .before .before .before .before .args .buffer) in
-    let many : writable m (length b) ≡ false = rw (lt-ltb places (m .count) (c .before .if1 .taken)) in
-    refused-so _ (bytesOf m b) (now (c .before .before .before .before .args .out)) many _ (c .write-answer .ensures)
+returns c = refused-so (rw (lt-ltb places (c .before .before .before .before .args .t1 .count) (c .before .if1 .taken))) (c .write-answer .ensures)
 
 cast-if2 : tie.Need-cast-if2 Inv-loop μ-loop Inv-loop2 μ-loop2
 cast-if2 c = search needs
@@ -59,9 +54,7 @@ write-answer-requires-2 c κs = search needs
 returns-2 : tie.Need-returns-2 Inv-loop μ-loop Inv-loop2 μ-loop2
 returns-2 c =
     let m = c .before .before .before .before .before .args .t1 in
-    let b = now (c .before .before .before .before .before .args .buffer) in
-    let other : writable m (length b) ≡ false = rw (le-ltb places (m .count) (c .before .before .if1 .left), ne-eqb (m .«stats_count») (m .count) (c .before .if2 .taken)) in
-    refused-so _ (bytesOf m b) (now (c .before .before .before .before .before .args .out)) other _ (c .write-answer2 .ensures)
+    refused-so (rw (le-ltb places (m .count) (c .before .before .if1 .left), ne-eqb (m .«stats_count») (m .count) (c .before .if2 .taken))) (c .write-answer2 .ensures)
 
 loop-holds : tie.Need-loop-holds Inv-loop μ-loop Inv-loop2 μ-loop2
 loop-holds c = measured-starts (omega (arith, table-long (c .before .before .before .before .args .t1) _ (c .before .before .before .before .good .0), c .before .if1 .left)) (rw (le-ltb places (c .before .before .before .before .args .t1 .count) (c .before .if1 .left), eq-eqb (c .before .before .before .before .args .t1 .«stats_count») (c .before .before .before .before .args .t1 .count) (c .if2 .left)))
@@ -80,8 +73,7 @@ write-answer-requires-3 c κs = search needs
 
 returns-3 : tie.Need-returns-3 Inv-loop μ-loop Inv-loop2 μ-loop2
 returns-3 c =
-    refused-so _ (bytesOf (c .before .before .before .before .before .before .before .before .before .before .args .t1) (now (c .before .before .before .before .before .before .before .before .before .before .args .buffer))) (now (c .before .before .before .before .before .before .before .before .before .before .args .out))
-    (measured-bad (c .before .before .before .before .before .loop .inv) zeroCounter (c .before .before .before .before .loop-test .taken) (sym (c .before .before .counter-writable .ensures) ∙ not-true (c .before .before .counter-writable .result) (c .before .if3 .taken))) _ (c .write-answer3 .ensures)
+    refused-so (measured-bad (c .before .before .before .before .before .loop .inv) zeroCounter (c .before .before .before .before .loop-test .taken) (sym (c .before .before .counter-writable .ensures) ∙ not-true (c .before .before .counter-writable .result) (c .before .if3 .taken))) (c .write-answer3 .ensures)
 
 counter-length-requires : tie.Need-counter-length-requires Inv-loop μ-loop Inv-loop2 μ-loop2
 counter-length-requires c κs = search needs
