@@ -1,14 +1,15 @@
 -- What a user of the Initiation body relies on. Assumes nothing.
-use mathlib.Core.Path.{_≡_, refl}
+use mathlib.Core.Path.{_≡_, refl, ap}
 use mathlib.Core.List.{List}
 use Prim.Native.Nat.{ℕ, _≤_, _<_}
+use borrow.Author.Tests.{le-ltb}
 use lib.ListN.{length, drop, take}
 use Rattle.wire.specs.Parts.{AllAt, endFrom}
 use Rattle.wire.specs.Tlv.{sizeOf, putTail}
 use Rattle.wire.proofs.Determined.{determined}
 use Rattle.wire.proofs.Exactly.{not-too-long}
-use Rattle.wire.proofs.Tlv.{tlv-viewed}
-use Rattle.wire.proofs.Walk.{read-complete, each-at, read-accepted}
+use Rattle.wire.proofs.Tlv.{tlv-viewed, stop-behind}
+use Rattle.wire.proofs.Walk.{read-complete, each-at, read-accepted, read-too-many, tail-behind}
 use Rattle.wire.proofs.Walk as Walk
 use Rattle.wire.proofs.Arms.{number-of-name}
 use Rattle.wire.specs.Refuses.{Refuses}
@@ -52,11 +53,13 @@ refuses = Refusals.refuses
 -- A good reading of more TLVs than the table holds is refused with TooMany, at the first that has no room.
 pub too-many : (r : Reading) → Good r → length (join r) ≤ Number.limit → places < length (r .tlvs)
     → readInitiation (join r) ≡ refusedAnswer (refusal Number.TooMany (endFrom sizeOf 0 (take places (r .tlvs))))
-too-many = Refusals.too-many
+too-many r g h many =
+    rw (le-ltb Number.limit (length (join r)) h)
+    (ap answer (read-too-many kit laws tails 0 (join r) (r .tlvs) (r .tail) (g .each) (g .tail-good) refl many))
 
 -- What follows the stop is the tail, or what is there of the value of an oversized TLV.
 pub stop-told : (r : Reading) → Good r → drop (shown r .stop) (join r) ≡ unread (r .tail)
-stop-told = ToldProofs.stop-told
+stop-told r g = stop-behind (join r) _ (r .tail) (tail-behind kit laws (join r) (r .tlvs) (putTail (r .tail)) 0 (g .each) refl)
 
 -- No input has two readings, whatever the table holds.
 pub unique : Unique grammar

@@ -5,13 +5,12 @@ use mathlib.Core.List.{List}
 use native.Mathlib.Omega.{arith}
 use lib.ListN.{length, drop, replicate}
 use Rattle.wire.specs.View.{viewed}
-use Rattle.wire.specs.TlvAt.{unread}
 use Rattle.wire.specs.Tlv.{Tlv, putTlv, sizeOf, putTail}
 use Rattle.wire.specs.Exactly.{Told}
-use Rattle.wire.proofs.Tlv.{tlv-viewed, tail-join, stop-behind}
+use Rattle.wire.proofs.Tlv.{tlv-viewed, tail-join}
 use Rattle.wire.proofs.Walk.{each-at, items-told, tail-behind, end-within}
-use Rattle.initiation_message.specs.Grammar.{Reading, join, ReadTlv, Good, places}
-use Rattle.initiation_message.specs.Shown.{entry, zeroTlv, shown}
+use Rattle.initiation_message.specs.Grammar.{join, ReadTlv, places}
+use Rattle.initiation_message.specs.Shown.{entry, zeroTlv}
 use Rattle.initiation_message.specs.Told.{toldTlv}
 use Rattle.initiation_message.specs.Read.{kit, reader}
 use Rattle.initiation_message.proofs.Laws.{laws}
@@ -32,7 +31,3 @@ told-back r g f =
       tail-so = tail-behind kit laws s (r .tlvs) (putTail (r .tail)) 0 (g .each) refl;
       tail-within = end-within kit laws s (r .tlvs) (putTail (r .tail)) 0 (g .each) refl (omega arith);
     }
-
--- What follows the stop is the tail, or what is there of the value of an oversized TLV.
-pub stop-told : (r : Reading) → Good r → drop (shown r .stop) (join r) ≡ unread (r .tail)
-stop-told r g = stop-behind (join r) _ (r .tail) (tail-behind kit laws (join r) (r .tlvs) (putTail (r .tail)) 0 (g .each) refl)

@@ -1,12 +1,13 @@
 -- What a user of the Route Mirroring body relies on. Assumes nothing.
-use mathlib.Core.Path.{_≡_, refl}
+use mathlib.Core.Path.{_≡_, refl, ap}
 use mathlib.Core.List.{List}
 use Prim.Native.Nat.{ℕ, _≤_, _<_}
+use borrow.Author.Tests.{le-ltb}
 use lib.ListN.{length, take}
 use Rattle.wire.specs.Parts.{AllAt, endFrom}
 use Rattle.wire.proofs.Determined.{determined}
 use Rattle.wire.proofs.Exactly.{not-too-long}
-use Rattle.wire.proofs.Walk.{read-complete, each-at, read-accepted}
+use Rattle.wire.proofs.Walk.{read-complete, each-at, read-accepted, read-too-many}
 use Rattle.wire.proofs.Walk as Walk
 use Rattle.wire.specs.Refuses.{Refuses}
 use Rattle.wire.specs.Exactly.{Sound, Complete, Told, Unique}
@@ -14,8 +15,9 @@ use Rattle.wire.specs.Number as Number
 use Rattle.wire.specs.Refusal.{refusal}
 use Rattle.wire.specs.Bytes.{Bytes}
 use Rattle.wire.specs.Lacking.{CutAfter}
+use Rattle.wire.proofs.Cuts.{cuts-in, body-cut}
 use Rattle.route_mirroring.specs.Grammar.{Reading, join, Good, sizeOf, grammar, places, put, ReadTlv}
-use Rattle.route_mirroring.specs.Read.{kit, readMirroring, reader, answer, widthsIn}
+use Rattle.route_mirroring.specs.Read.{kit, readMirroring, reader, answer, widthsIn, step}
 use Rattle.route_mirroring.specs.declared.RouteMirroringInfo.{RouteMirroringInfo}
 use Rattle.route_mirroring.specs.declared.RouteMirroringValue.{RouteMirroringValue}
 use Rattle.route_mirroring.specs.declared.RouteMirroringTlv.{RouteMirroringTlv}
@@ -25,7 +27,7 @@ use Rattle.route_mirroring.proofs.Laws.{faults, laws, tails}
 use Rattle.route_mirroring.proofs.Shows.{shows-of, ViewAt, code-told, view-at}
 use Rattle.route_mirroring.proofs.Told as ToldProofs
 use Rattle.route_mirroring.proofs.Refusals as Refusals
-use Rattle.route_mirroring.proofs.Cuts as Cuts
+use Rattle.route_mirroring.proofs.Cuts.{cuts}
 
 -- What the reader accepts has a good reading that fits, and it shows that reading.
 pub sound : Sound reader
@@ -50,7 +52,9 @@ refuses = Refusals.refuses
 -- A good reading of more TLVs than the table holds is refused with TooMany, at the first that has no room.
 pub too-many : (r : Reading) → Good r → length (join r) ≤ Number.limit → places < length (r .tlvs)
     → readMirroring (join r) ≡ refusedAnswer (refusal Number.TooMany (endFrom sizeOf 0 (take places (r .tlvs))))
-too-many = Refusals.too-many
+too-many r g h many =
+    rw (le-ltb Number.limit (length (join r)) h)
+    (ap answer (read-too-many kit laws tails 0 (join r) (r .tlvs) (r .tail) (g .each) (g .tail-good) refl many))
 
 -- No input has two readings, whatever the table holds.
 pub unique : Unique grammar
@@ -68,7 +72,9 @@ code-number = code-told
 
 -- A Cut is at the first part that is not whole, behind TLVs that are.
 pub refuses-cut : (s : List ℕ) → Bytes s → readMirroring s .refusal .number ≡ Number.Cut → CutAfter put ReadTlv sizeOf widthsIn 0 s (readMirroring s .refusal .place)
-refuses-cut = Cuts.refuses-cut
+refuses-cut =
+    body-cut kit laws widthsIn (λ z. cuts-in (widthsIn z) (length z) (step z) (cuts z)) reader _ answer (λ s. refl) refl
+    (λ n at table z. refl) (λ r. refl)
 
 -- ---- any two answers that the contracts allow are equal
 -- Two codes that code may tell of the same information are equal.

@@ -14,7 +14,7 @@ use Rattle.wire.specs.Parts.{AllAt, endFrom}
 use Rattle.wire.specs.Walk.{Out, good, refused, readFrom}
 use Rattle.wire.proofs.Bytes.{num-lt, num-back}
 use Rattle.wire.proofs.Determined.{determined}
-use Rattle.wire.proofs.Walk.{read-fault, counted-sound, counted-complete, counted-unique, each-at}
+use Rattle.wire.proofs.Walk.{read-fault, counted-sound, counted-complete, counted-unique, each-at, counted-too-many}
 use Rattle.wire.specs.Refuses.{Refuses}
 use Rattle.wire.specs.Exactly.{Shows, Sound, Complete, Told, Unique}
 use Rattle.wire.specs.Refusal.{refusal}
@@ -23,15 +23,16 @@ use Rattle.stats_type.specs.Shown.{typeOf}
 use Rattle.stats_type.specs.declared.StatType.{StatType}
 use Rattle.stats_data.specs.declared.StatsData.{StatsData}
 use Rattle.stats_report.specs.Grammar.{Reading, join, Good, sizeOf, grammar, places, putStat, GoodStat}
-use Rattle.stats_report.specs.Read.{kit, readStats, reader, widthsIn}
+use Rattle.stats_report.specs.Read.{kit, readStats, reader, widthsIn, answer}
 use Rattle.stats_report.specs.declared.StatCounter.{StatCounter}
 use Rattle.stats_report.specs.declared.StatsAnswer.{StatsAnswer}
 use Rattle.stats_report.specs.Shown.{dataIn, refusedAnswer}
-use Rattle.stats_report.proofs.Laws.{faults, never, laws, behind}
+use Rattle.stats_report.proofs.Laws.{faults, never, laws, behind, counted}
 use Rattle.stats_report.proofs.Shows.{shows-of, count-of, ViewAt, view-at}
 use Rattle.stats_report.proofs.Told as ToldProofs
 use Rattle.stats_report.proofs.Refusals as Refusals
 use Rattle.stats_report.proofs.Cuts as Cuts
+use Rattle.cursor.specs.Read.{cursor}
 
 -- What the reader accepts has a good reading that fits, and it shows that reading.
 pub sound : Sound reader
@@ -79,7 +80,10 @@ refuses = Refusals.refuses
 -- A good reading of more records than the table holds is refused with TooMany, at the first that has no room.
 pub too-many : (r : Reading) → Good r → length (join r) ≤ Number.limit → places < length (r .stats)
     → readStats (join r) ≡ refusedAnswer (refusal Number.TooMany (endFrom sizeOf 4 (take places (r .stats))))
-too-many = Refusals.too-many
+unfolding be
+too-many r g h many =
+    counted (join r) h (r .count) (cursor 4) (count-of r g)
+    ∙ ap (answer (r .count)) (counted-too-many kit laws (r .count) 4 (join r) (r .stats) (r .tail) (g .each) (sym (g .count-is)) refl many)
 
 -- No input has two readings, whatever the table holds.
 pub unique : Unique grammar

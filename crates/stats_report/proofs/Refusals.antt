@@ -1,24 +1,17 @@
 -- What the reader refuses, and with which numbers. Assumes nothing.
-use mathlib.Core.Path.{_≡_, refl, sym, ap, _∙_}
+use mathlib.Core.Path.{refl}
 use mathlib.Core.List.{List, [], _∷_}
-use Prim.Native.Nat.{ℕ, _-_, _≤_, _<_}
+use Prim.Native.Nat.{ℕ, _-_}
 use lib.Dec.{ltb}
-use lib.ListN.{length, take, replicate}
+use lib.ListN.{length, replicate}
 use Rattle.wire.specs.Number as Number
-use Rattle.wire.specs.Bytes.{be, value, has, numAt, none}
-use Rattle.wire.specs.Refusal.{refusal}
-use Rattle.wire.specs.Parts.{endFrom}
+use Rattle.wire.specs.Bytes.{value, has, numAt, none}
 use Rattle.wire.specs.Walk.{walk, fill}
 use Rattle.wire.specs.Refuses.{OneOf, Refuses}
-use Rattle.wire.proofs.Walk.{BadIn, faults-in, counted-too-many}
+use Rattle.wire.proofs.Walk.{BadIn, faults-in}
 use Rattle.wire.proofs.Refuses.{pick-in, Answered, is-empty, one-of, GivesEach, gives-too-long, walk-answered, refuses-from, bytes-are}
-use Rattle.cursor.specs.Read.{cursor}
 use Rattle.stats_data.specs.Read.{valueOf}
-use Rattle.stats_report.specs.Grammar.{Reading, join, Good, sizeOf, places}
-use Rattle.stats_report.specs.Shown.{refusedAnswer}
 use Rattle.stats_report.specs.Read.{step, kit, answer, readStats, numbers, reader}
-use Rattle.stats_report.proofs.Laws.{laws, counted}
-use Rattle.stats_report.proofs.Shows.{count-of}
 
 faults : (s : List ℕ) → BadIn (OneOf numbers) (step s)
 unfolding step
@@ -43,11 +36,3 @@ given = (gives-too-long reader _ _ (λ s. refl) refl, (([], none, refl), ((0 ∷
 
 pub refuses : Refuses reader
 refuses = refuses-from reader answered given
-
--- ---- a good reading of more records than the table holds is refused at the first that has no room
-pub too-many : (r : Reading) → Good r → length (join r) ≤ Number.limit → places < length (r .stats)
-    → readStats (join r) ≡ refusedAnswer (refusal Number.TooMany (endFrom sizeOf 4 (take places (r .stats))))
-unfolding be
-too-many r g h many =
-    counted (join r) h (r .count) (cursor 4) (count-of r g)
-    ∙ ap (answer (r .count)) (counted-too-many kit laws (r .count) 4 (join r) (r .stats) (r .tail) (g .each) (sym (g .count-is)) refl many)

@@ -1,20 +1,15 @@
 -- A Cut is at the first part that is not whole. Assumes nothing.
-use mathlib.Core.Path.{_≡_, refl}
 use mathlib.Core.List.{List}
 use Prim.Native.Nat.{ℕ, _-_}
 use native.Mathlib.Omega.{arith}
 use borrow.Author.Tests.{leb-false, ltb-true}
 use lib.Dec.{leb, ltb, eqb}
 use lib.ListN.{length}
-use Rattle.wire.specs.Number as Number
-use Rattle.wire.specs.Bytes.{numAt, Bytes}
-use Rattle.wire.specs.Lacking.{CutAfter}
-use Rattle.wire.proofs.Cuts.{CutsIn, cuts-in, pick-by, value-lacks, body-cut}
-use Rattle.termination_message.specs.Grammar.{put, sizeOf, ReadTlv}
-use Rattle.termination_message.specs.Read.{step, widthsIn, kit, answer, readTermination, reader}
-use Rattle.termination_message.proofs.Laws.{laws}
+use Rattle.wire.specs.Bytes.{numAt}
+use Rattle.wire.proofs.Cuts.{CutsIn, pick-by, value-lacks}
+use Rattle.termination_message.specs.Read.{step, widthsIn}
 
-cuts : (s : List ℕ) → CutsIn (widthsIn s) (length s) (step s)
+pub cuts : (s : List ℕ) → CutsIn (widthsIn s) (length s) (step s)
 unfolding step
 cuts s =
     let P = CutsIn (widthsIn s) (length s) in
@@ -23,9 +18,3 @@ cuts s =
     pick-by P (ltb (length s - 4) 2)
     (λ h e. let l = leb-false (length s) 4 long in value-lacks 2 (length s) (omega arith) (ltb-true (length s - 4) 2 h))
     (λ h. pick-by P (ltb 4 (numAt 2 s 4)) (λ h e. absurd (omega arith)) (λ h. tt))))))
-
-pub refuses-cut : (s : List ℕ) → Bytes s → readTermination s .refusal .number ≡ Number.Cut
-    → CutAfter put ReadTlv sizeOf widthsIn 0 s (readTermination s .refusal .place)
-refuses-cut =
-    body-cut kit laws widthsIn (λ z. cuts-in (widthsIn z) (length z) (step z) (cuts z)) reader _ answer (λ s. refl) refl
-    (λ n at table z. refl) (λ r. refl)

@@ -1,13 +1,14 @@
 -- What a user of the Termination body relies on. Assumes nothing.
-use mathlib.Core.Path.{_≡_, refl}
+use mathlib.Core.Path.{_≡_, refl, ap}
 use mathlib.Core.List.{List}
 use Prim.Native.Nat.{ℕ, _≤_, _<_}
+use borrow.Author.Tests.{le-ltb}
 use lib.ListN.{length, drop, take}
 use Rattle.wire.specs.Parts.{AllAt, endFrom}
 use Rattle.wire.specs.Tlv.{putTail}
 use Rattle.wire.proofs.Determined.{determined}
 use Rattle.wire.proofs.Exactly.{not-too-long}
-use Rattle.wire.proofs.Walk.{read-complete, each-at, read-accepted}
+use Rattle.wire.proofs.Walk.{read-complete, each-at, read-accepted, read-too-many, tail-behind}
 use Rattle.wire.proofs.Walk as Walk
 use Rattle.wire.specs.Refuses.{Refuses}
 use Rattle.wire.specs.Exactly.{Sound, Complete, Told, Unique}
@@ -16,9 +17,11 @@ use Rattle.wire.specs.Refusal.{refusal}
 use Rattle.wire.specs.TlvAt.{unread}
 use Rattle.wire.specs.Bytes.{Bytes}
 use Rattle.wire.specs.Lacking.{CutAfter}
+use Rattle.wire.proofs.Tlv.{stop-behind}
+use Rattle.wire.proofs.Cuts.{cuts-in, body-cut}
 use Rattle.termination_message.specs.Grammar.{sizeOf, Reading, join, Good, grammar, places, put, ReadTlv}
 use Rattle.termination_message.specs.Shown.{typeOf, reasonOf, codeOf, valueOf, refusedAnswer, shown}
-use Rattle.termination_message.specs.Read.{kit, readTermination, reader, answer, widthsIn}
+use Rattle.termination_message.specs.Read.{kit, readTermination, reader, answer, widthsIn, step}
 use Rattle.termination_message.specs.declared.TerminationReason.{TerminationReason}
 use Rattle.termination_message.specs.declared.TerminationReason.the-variants.{AdministrativelyClosed, UnspecifiedReason, OutOfResources, RedundantConnection, PermanentlyAdministrativelyClosed}
 use Rattle.termination_message.specs.declared.TerminationTlv.{TerminationTlv}
@@ -29,7 +32,7 @@ use Rattle.termination_message.proofs.Laws.{faults, laws, tails}
 use Rattle.termination_message.proofs.Shows.{shows-of, ValueAt, code-told, value-at}
 use Rattle.termination_message.proofs.Told as ToldProofs
 use Rattle.termination_message.proofs.Refusals as Refusals
-use Rattle.termination_message.proofs.Cuts as Cuts
+use Rattle.termination_message.proofs.Cuts.{cuts}
 
 -- What the reader accepts has a good reading that fits, and it shows that reading.
 pub sound : Sound reader
@@ -54,11 +57,13 @@ refuses = Refusals.refuses
 -- A good reading of more TLVs than the table holds is refused with TooMany, at the first that has no room.
 pub too-many : (r : Reading) → Good r → length (join r) ≤ Number.limit → places < length (r .tlvs)
     → readTermination (join r) ≡ refusedAnswer (refusal Number.TooMany (endFrom sizeOf 0 (take places (r .tlvs))))
-too-many = Refusals.too-many
+too-many r g h many =
+    rw (le-ltb Number.limit (length (join r)) h)
+    (ap answer (read-too-many kit laws tails 0 (join r) (r .tlvs) (r .tail) (g .each) (g .tail-good) refl many))
 
 -- What follows the stop is the tail, or what is there of the value of an oversized TLV.
 pub stop-told : (r : Reading) → Good r → drop (shown r .stop) (join r) ≡ unread (r .tail)
-stop-told = ToldProofs.stop-told
+stop-told r g = stop-behind (join r) _ (r .tail) (tail-behind kit laws (join r) (r .tlvs) (putTail (r .tail)) 0 (g .each) refl)
 
 -- No input has two readings, whatever the table holds.
 pub unique : Unique grammar
@@ -84,7 +89,9 @@ code-reason PermanentlyAdministrativelyClosed = refl
 
 -- A Cut is at the first part that is not whole, behind TLVs that are.
 pub refuses-cut : (s : List ℕ) → Bytes s → readTermination s .refusal .number ≡ Number.Cut → CutAfter put ReadTlv sizeOf widthsIn 0 s (readTermination s .refusal .place)
-refuses-cut = Cuts.refuses-cut
+refuses-cut =
+    body-cut kit laws widthsIn (λ z. cuts-in (widthsIn z) (length z) (step z) (cuts z)) reader _ answer (λ s. refl) refl
+    (λ n at table z. refl) (λ r. refl)
 
 -- ---- any two answers that the contracts allow are equal
 -- Two numbers that code may tell of the same reason are equal.

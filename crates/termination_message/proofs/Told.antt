@@ -6,12 +6,11 @@ use native.Mathlib.Omega.{arith}
 use lib.ListN.{length, drop, replicate}
 use Rattle.wire.specs.View.{viewed}
 use Rattle.wire.specs.Tlv.{putTail}
-use Rattle.wire.specs.TlvAt.{unread}
 use Rattle.wire.specs.Exactly.{Told}
-use Rattle.wire.proofs.Tlv.{tail-join, stop-behind}
+use Rattle.wire.proofs.Tlv.{tail-join}
 use Rattle.wire.proofs.Walk.{each-at, items-told, tail-behind, end-within}
-use Rattle.termination_message.specs.Grammar.{Tlv, string, reason, put, sizeOf, ReadTlv, join, places, Reading, Good}
-use Rattle.termination_message.specs.Shown.{entry, zeroTlv, shown}
+use Rattle.termination_message.specs.Grammar.{Tlv, string, reason, put, sizeOf, ReadTlv, join, places}
+use Rattle.termination_message.specs.Shown.{entry, zeroTlv}
 use Rattle.termination_message.specs.Told.{toldTlv}
 use Rattle.termination_message.specs.Read.{kit, reader}
 use Rattle.termination_message.proofs.Laws.{laws}
@@ -32,6 +31,3 @@ told-back r g f =
       tail-so = tail-behind kit laws s (r .tlvs) (putTail (r .tail)) 0 (g .each) refl;
       tail-within = end-within kit laws s (r .tlvs) (putTail (r .tail)) 0 (g .each) refl (omega arith);
     }
-
-pub stop-told : (r : Reading) → Good r → drop (shown r .stop) (join r) ≡ unread (r .tail)
-stop-told r g = stop-behind (join r) _ (r .tail) (tail-behind kit laws (join r) (r .tlvs) (putTail (r .tail)) 0 (g .each) refl)
