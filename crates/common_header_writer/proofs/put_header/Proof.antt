@@ -31,12 +31,13 @@ same-length c = search needs
 returns : tie.Need-returns
 unfolding be
 returns c =
-    let out = now (c .before .before .before .before .before .before .before .before .before .before .before .before .before .before .args .out) in
-    let n1 : length (c .before .before .before .before .before .before .before .before .before .before .before .put-u8 .last .0) ≡ length out = ap length (c .before .before .before .before .before .before .before .before .before .before .before .put-u8 .ensures) ∙ length-put out 0 (be 1 (c .before .before .before .before .before .before .before .before .before .before .before .before .before .before .args .header .version)) in
+    let a = c .before .before .before .before .before .before .before .before .before .before .before .before .before .before .args in
+    let out = now (a .out) in
+    let n1 : length (c .before .before .before .before .before .before .before .before .before .before .before .put-u8 .last .0) ≡ length out = ap length (c .before .before .before .before .before .before .before .before .before .before .before .put-u8 .ensures) ∙ length-put out 0 (be 1 (a .header .version)) in
     let kind = c .before .before .put-u82 .ensures ∙ ap (λ (k : ℕ). putAt (c .before .before .before .before .before .before .before .put-u32 .last .0) 5 (be 1 k)) (c .before .before .before .kind-of .ensures) in
-    let two = put-then (c .before .before .before .before .before .before .before .before .before .before .before .put-u8 .last .0) _ _ 1 5 (be 4 (c .before .before .before .before .before .before .before .before .before .before .before .before .before .before .args .header .«msg_len»)) (be 1 (kindOf (c .before .before .before .before .before .before .before .before .before .before .before .before .before .before .args .header .«msg_type»))) (omega arith) (c .before .before .before .before .before .before .before .put-u32 .ensures) refl kind in
-    put-then out _ _ 0 1 (be 1 (c .before .before .before .before .before .before .before .before .before .before .before .before .before .before .args .header .version)) (be 4 (c .before .before .before .before .before .before .before .before .before .before .before .before .before .before .args .header .«msg_len») ++ be 1 (kindOf (c .before .before .before .before .before .before .before .before .before .before .before .before .before .before .args .header .«msg_type»))) (omega arith) (c .before .before .before .before .before .before .before .before .before .before .before .put-u8 .ensures) refl two
-    ∙ put-fits out 0 (bytesOf (c .before .before .before .before .before .before .before .before .before .before .before .before .before .before .args .header)) (omega arith)
+    let two = put-then (c .before .before .before .before .before .before .before .before .before .before .before .put-u8 .last .0) _ _ 1 5 (be 4 (a .header .«msg_len»)) (be 1 (kindOf (a .header .«msg_type»))) (omega arith) (c .before .before .before .before .before .before .before .put-u32 .ensures) refl kind in
+    put-then out _ _ 0 1 (be 1 (a .header .version)) (be 4 (a .header .«msg_len») ++ be 1 (kindOf (a .header .«msg_type»))) (omega arith) (c .before .before .before .before .before .before .before .before .before .before .before .put-u8 .ensures) refl two
+    ∙ put-fits out 0 (bytesOf (a .header)) (omega arith)
 
 pub put-header-spec : {M : Type 1} → statement M
 put-header-spec =

@@ -59,12 +59,13 @@ loop-less c = search needs
 
 loop-again : tie.Need-loop-again Inv-loop μ-loop
 loop-again c =
-    let more = length-more (c .before .loop .rest) (c .loop-test .taken) in
-    let some = length-some (c .before .loop .rest / 10) in (
-      omega (arith, c .before .loop .inv .0, more, some),
+    let k = c .before .loop in
+    let more = length-more (k .rest) (c .loop-test .taken) in
+    let some = length-some (k .rest / 10) in (
+      omega (arith, k .inv .0, more, some),
       (
-        omega (arith, c .before .loop .inv .0, c .before .loop .inv .1 .0, more, some),
-        (length-set (c .before .loop .out) (c .before .loop .last) _ ∙ c .before .loop .inv .1 .1 .0, put-last (c .before .loop .out) (c .before .before .before .before .before .before .before .args .at) (c .before .loop .last) (c .before .loop .rest) (c .loop-test .taken) (c .before .loop .inv .0) ∙ c .before .loop .inv .1 .1 .1),
+        omega (arith, k .inv .0, k .inv .1 .0, more, some),
+        (length-set (k .out) (k .last) _ ∙ k .inv .1 .1 .0, put-last (k .out) (c .before .before .before .before .before .before .before .args .at) (k .last) (k .rest) (c .loop-test .taken) (k .inv .0) ∙ k .inv .1 .1 .1),
       ),
     )
 

@@ -28,8 +28,9 @@ same-length c = search needs
 
 returns : tie.Need-returns
 returns c =
-    then (now (c .before .before .before .before .before .before .before .before .before .before .args .out)) (c .before .before .before .before .before .before .put-bytes .last .0) (c .before .before .put-field .last .0) (ascii "end ") (decimal (c .before .before .before .before .before .before .before .before .before .before .args .place) ++ (10 ∷ [])) (c .before .before .before .before .before .before .before .before .before .before .args .at) (c .before .before .before .before .before .before .before .before .before .before .args .at + 4) (c .before .before .put-field .result) (c .before .before .before .before .before .before .put-bytes .kept .0)
-    (put-ends (now (c .before .before .before .before .before .before .before .before .before .before .args .out)) (c .before .before .before .before .before .before .put-bytes .last .0) (ascii "end ") (c .before .before .before .before .before .before .before .before .before .before .args .at) (c .before .before .before .before .before .before .before .before .before .before .args .at + 4) refl (c .before .before .before .before .before .before .put-bytes .ensures))
+    let a = c .before .before .before .before .before .before .before .before .before .before .args in
+    then (now (a .out)) (c .before .before .before .before .before .before .put-bytes .last .0) (c .before .before .put-field .last .0) (ascii "end ") (decimal (a .place) ++ (10 ∷ [])) (a .at) (a .at + 4) (c .before .before .put-field .result) (c .before .before .before .before .before .before .put-bytes .kept .0)
+    (put-ends (now (a .out)) (c .before .before .before .before .before .before .put-bytes .last .0) (ascii "end ") (a .at) (a .at + 4) refl (c .before .before .before .before .before .before .put-bytes .ensures))
     (c .before .before .put-field .ensures)
 
 pub put-end-line-spec : {M : Type 1} → statement M

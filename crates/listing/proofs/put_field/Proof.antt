@@ -30,12 +30,13 @@ same-length c = search needs
 
 returns : tie.Need-returns
 returns c =
-    let next = c .before .before .before .before .before .before .before .before .before .args .at + c .before .before .before .before .before .before .put-decimal .result in
-    let at-next : next ≡ c .before .before .before .before .before .before .before .before .before .args .at + length (decimal (c .before .before .before .before .before .before .before .before .before .args .n)) = ap (λ i. c .before .before .before .before .before .before .before .before .before .args .at + i) (c .before .before .before .before .before .before .put-decimal .ensures .0) in
-    then (now (c .before .before .before .before .before .before .before .before .before .args .out)) (c .before .before .before .before .before .before .put-decimal .last .0) (c .before .before .put-u8 .last .0) (decimal (c .before .before .before .before .before .before .before .before .before .args .n)) (c .before .before .before .before .before .before .before .before .before .args .after ∷ []) (c .before .before .before .before .before .before .before .before .before .args .at) next (next + 1) (c .before .before .before .before .before .before .put-decimal .kept .0)
-    (put-ends (now (c .before .before .before .before .before .before .before .before .before .args .out)) (c .before .before .before .before .before .before .put-decimal .last .0) (decimal (c .before .before .before .before .before .before .before .before .before .args .n)) (c .before .before .before .before .before .before .before .before .before .args .at) next at-next (c .before .before .before .before .before .before .put-decimal .ensures .1))
-    (put-ends (c .before .before .before .before .before .before .put-decimal .last .0) (c .before .before .put-u8 .last .0) (c .before .before .before .before .before .before .before .before .before .args .after ∷ []) next (next + 1) (omega arith)
-    (c .before .before .put-u8 .ensures ∙ ap (putAt (c .before .before .before .before .before .before .put-decimal .last .0) next) (be-one (c .before .before .before .before .before .before .before .before .before .args .after) (c .before .before .before .before .before .before .before .before .before .fits .after .fits))))
+    let a = c .before .before .before .before .before .before .before .before .before .args in
+    let next = a .at + c .before .before .before .before .before .before .put-decimal .result in
+    let at-next : next ≡ a .at + length (decimal (a .n)) = ap (λ i. a .at + i) (c .before .before .before .before .before .before .put-decimal .ensures .0) in
+    then (now (a .out)) (c .before .before .before .before .before .before .put-decimal .last .0) (c .before .before .put-u8 .last .0) (decimal (a .n)) (a .after ∷ []) (a .at) next (next + 1) (c .before .before .before .before .before .before .put-decimal .kept .0)
+    (put-ends (now (a .out)) (c .before .before .before .before .before .before .put-decimal .last .0) (decimal (a .n)) (a .at) next at-next (c .before .before .before .before .before .before .put-decimal .ensures .1))
+    (put-ends (c .before .before .before .before .before .before .put-decimal .last .0) (c .before .before .put-u8 .last .0) (a .after ∷ []) next (next + 1) (omega arith)
+    (c .before .before .put-u8 .ensures ∙ ap (putAt (c .before .before .before .before .before .before .put-decimal .last .0) next) (be-one (a .after) (c .before .before .before .before .before .before .before .before .before .fits .after .fits))))
 
 pub put-field-spec : {M : Type 1} → statement M
 put-field-spec =

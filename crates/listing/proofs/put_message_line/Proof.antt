@@ -25,30 +25,32 @@ put-field-requires-2 c κs =
 
 put-field-requires-3 : tie.Need-put-field-requires-3
 put-field-requires-3 c κs =
+    let a = c .before .before .before .before .before .before .before .before .before .before .args in
     omega (
       arith,
       c .before .before .before .before .before .before .before .before .before .before .pre,
-      length-message (c .before .before .before .before .before .before .before .before .before .before .args .place) (c .before .before .before .before .before .before .before .before .before .before .args .kind) (c .before .before .before .before .before .before .before .before .before .before .args .msg-len) (c .before .before .before .before .before .before .before .before .before .before .args .answer),
+      length-message (a .place) (a .kind) (a .msg-len) (a .answer),
       c .before .before .before .before .before .before .before .put-field .ensures .0,
       c .before .before .before .put-field2 .ensures .0,
-      length-field (decimal (c .before .before .before .before .before .before .before .before .before .before .args .place)) 32,
-      length-field (decimal (c .before .before .before .before .before .before .before .before .before .before .args .kind)) 32,
-      length-field (decimal (c .before .before .before .before .before .before .before .before .before .before .args .msg-len)) 32,
+      length-field (decimal (a .place)) 32,
+      length-field (decimal (a .kind)) 32,
+      length-field (decimal (a .msg-len)) 32,
     )
 
 put-field-requires-4 : tie.Need-put-field-requires-4
 put-field-requires-4 c κs =
+    let a = c .before .before .before .before .before .before .before .before .before .before .before .before .before .before .args in
     omega (
       arith,
       c .before .before .before .before .before .before .before .before .before .before .before .before .before .before .pre,
-      length-message (c .before .before .before .before .before .before .before .before .before .before .before .before .before .before .args .place) (c .before .before .before .before .before .before .before .before .before .before .before .before .before .before .args .kind) (c .before .before .before .before .before .before .before .before .before .before .before .before .before .before .args .msg-len) (c .before .before .before .before .before .before .before .before .before .before .before .before .before .before .args .answer),
+      length-message (a .place) (a .kind) (a .msg-len) (a .answer),
       c .before .before .before .before .before .before .before .before .before .before .before .put-field .ensures .0,
       c .before .before .before .before .before .before .before .put-field2 .ensures .0,
       c .before .before .before .put-field3 .ensures .0,
-      length-field (decimal (c .before .before .before .before .before .before .before .before .before .before .before .before .before .before .args .place)) 32,
-      length-field (decimal (c .before .before .before .before .before .before .before .before .before .before .before .before .before .before .args .kind)) 32,
-      length-field (decimal (c .before .before .before .before .before .before .before .before .before .before .before .before .before .before .args .msg-len)) 32,
-      length-field (decimal (c .before .before .before .before .before .before .before .before .before .before .before .before .before .before .args .answer)) 10,
+      length-field (decimal (a .place)) 32,
+      length-field (decimal (a .kind)) 32,
+      length-field (decimal (a .msg-len)) 32,
+      length-field (decimal (a .answer)) 10,
     )
 
 same-length : tie.Need-same-length
@@ -56,10 +58,11 @@ same-length c = search needs
 
 returns : tie.Need-returns
 returns c =
-    let kind = decimal (c .before .before .before .before .before .before .before .before .before .before .before .before .before .before .before .before .before .args .kind) in
-    let msg-len = decimal (c .before .before .before .before .before .before .before .before .before .before .before .before .before .before .before .before .before .args .msg-len) in
-    let answer = decimal (c .before .before .before .before .before .before .before .before .before .before .before .before .before .before .before .before .before .args .answer) in
-    field-then (now (c .before .before .before .before .before .before .before .before .before .before .before .before .before .before .before .before .before .args .out)) (c .before .before .before .before .before .before .before .before .before .before .before .before .before .before .put-field .last .0) (c .before .before .put-field4 .last .0) (decimal (c .before .before .before .before .before .before .before .before .before .before .before .before .before .before .before .before .before .args .place)) 32 (kind ++ (32 ∷ (msg-len ++ (32 ∷ (answer ++ (10 ∷ [])))))) (c .before .before .before .before .before .before .before .before .before .before .before .before .before .before .before .before .before .args .at) (c .before .before .before .before .before .before .before .before .before .before .before .before .before .before .put-field .result) (c .before .before .put-field4 .result) (c .before .before .before .before .before .before .before .before .before .before .before .before .before .before .put-field .kept .0) (c .before .before .before .before .before .before .before .before .before .before .before .before .before .before .put-field .ensures)
+    let a = c .before .before .before .before .before .before .before .before .before .before .before .before .before .before .before .before .before .args in
+    let kind = decimal (a .kind) in
+    let msg-len = decimal (a .msg-len) in
+    let answer = decimal (a .answer) in
+    field-then (now (a .out)) (c .before .before .before .before .before .before .before .before .before .before .before .before .before .before .put-field .last .0) (c .before .before .put-field4 .last .0) (decimal (a .place)) 32 (kind ++ (32 ∷ (msg-len ++ (32 ∷ (answer ++ (10 ∷ [])))))) (a .at) (c .before .before .before .before .before .before .before .before .before .before .before .before .before .before .put-field .result) (c .before .before .put-field4 .result) (c .before .before .before .before .before .before .before .before .before .before .before .before .before .before .put-field .kept .0) (c .before .before .before .before .before .before .before .before .before .before .before .before .before .before .put-field .ensures)
     (field-then (c .before .before .before .before .before .before .before .before .before .before .before .before .before .before .put-field .last .0) (c .before .before .before .before .before .before .before .before .before .before .put-field2 .last .0) (c .before .before .put-field4 .last .0) kind 32 (msg-len ++ (32 ∷ (answer ++ (10 ∷ [])))) (c .before .before .before .before .before .before .before .before .before .before .before .before .before .before .put-field .result) (c .before .before .before .before .before .before .before .before .before .before .put-field2 .result) (c .before .before .put-field4 .result) (c .before .before .before .before .before .before .before .before .before .before .put-field2 .kept .0) (c .before .before .before .before .before .before .before .before .before .before .put-field2 .ensures)
     (field-then (c .before .before .before .before .before .before .before .before .before .before .put-field2 .last .0) (c .before .before .before .before .before .before .put-field3 .last .0) (c .before .before .put-field4 .last .0) msg-len 32 (answer ++ (10 ∷ [])) (c .before .before .before .before .before .before .before .before .before .before .put-field2 .result) (c .before .before .before .before .before .before .put-field3 .result) (c .before .before .put-field4 .result) (c .before .before .before .before .before .before .put-field3 .kept .0) (c .before .before .before .before .before .before .put-field3 .ensures)
     (c .before .before .put-field4 .ensures)))

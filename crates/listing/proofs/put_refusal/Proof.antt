@@ -24,31 +24,34 @@ put-bytes-requires c κs = search needs
 
 add-put-field : tie.Need-add-put-field
 add-put-field c =
-    omega (arith, c .before .before .before .before .before .before .before .before .before .before .before .pre, length-append (refusedLine (c .before .before .before .before .before .before .before .before .before .before .before .args .place) (c .before .before .before .before .before .before .before .before .before .before .before .args .number)) (endLine (c .before .before .before .before .before .before .before .before .before .before .before .args .place)), length-refused (c .before .before .before .before .before .before .before .before .before .before .before .args .place) (c .before .before .before .before .before .before .before .before .before .before .before .args .number), c .before .before .before .before .before .before .before .before .put-field .ensures .0, length-field (decimal (c .before .before .before .before .before .before .before .before .before .before .before .args .place)) 32)
+    let a = c .before .before .before .before .before .before .before .before .before .before .before .args in
+    omega (arith, c .before .before .before .before .before .before .before .before .before .before .before .pre, length-append (refusedLine (a .place) (a .number)) (endLine (a .place)), length-refused (a .place) (a .number), c .before .before .before .before .before .before .before .before .put-field .ensures .0, length-field (decimal (a .place)) 32)
 
 put-field-requires-2 : tie.Need-put-field-requires-2
 put-field-requires-2 c κs =
+    let a = c .before .before .before .before .before .before .before .before .before .before .before .args in
     omega (
       arith,
       c .before .before .before .before .before .before .before .before .before .before .before .pre,
-      length-append (refusedLine (c .before .before .before .before .before .before .before .before .before .before .before .args .place) (c .before .before .before .before .before .before .before .before .before .before .before .args .number)) (endLine (c .before .before .before .before .before .before .before .before .before .before .before .args .place)),
-      length-refused (c .before .before .before .before .before .before .before .before .before .before .before .args .place) (c .before .before .before .before .before .before .before .before .before .before .before .args .number),
+      length-append (refusedLine (a .place) (a .number)) (endLine (a .place)),
+      length-refused (a .place) (a .number),
       c .before .before .before .before .before .before .before .before .put-field .ensures .0,
-      length-field (decimal (c .before .before .before .before .before .before .before .before .before .before .before .args .place)) 32,
-      length-field (decimal (c .before .before .before .before .before .before .before .before .before .before .before .args .number)) 10,
+      length-field (decimal (a .place)) 32,
+      length-field (decimal (a .number)) 10,
     )
 
 put-end-line-requires : tie.Need-put-end-line-requires
 put-end-line-requires c κs =
+    let a = c .before .before .before .before .before .before .before .before .before .before .before .before .before .before .before .args in
     omega (
       arith,
       c .before .before .before .before .before .before .before .before .before .before .before .before .before .before .before .pre,
-      length-append (refusedLine (c .before .before .before .before .before .before .before .before .before .before .before .before .before .before .before .args .place) (c .before .before .before .before .before .before .before .before .before .before .before .before .before .before .before .args .number)) (endLine (c .before .before .before .before .before .before .before .before .before .before .before .before .before .before .before .args .place)),
-      length-refused (c .before .before .before .before .before .before .before .before .before .before .before .before .before .before .before .args .place) (c .before .before .before .before .before .before .before .before .before .before .before .before .before .before .before .args .number),
+      length-append (refusedLine (a .place) (a .number)) (endLine (a .place)),
+      length-refused (a .place) (a .number),
       c .before .before .before .before .before .before .before .before .before .before .before .before .put-field .ensures .0,
       c .before .before .before .put-field2 .ensures .0,
-      length-field (decimal (c .before .before .before .before .before .before .before .before .before .before .before .before .before .before .before .args .place)) 32,
-      length-field (decimal (c .before .before .before .before .before .before .before .before .before .before .before .before .before .before .before .args .number)) 10,
+      length-field (decimal (a .place)) 32,
+      length-field (decimal (a .number)) 10,
     )
 
 same-length : tie.Need-same-length
@@ -56,9 +59,10 @@ same-length c = search needs
 
 returns : tie.Need-returns
 returns c =
-    let number = decimal (c .before .before .before .before .before .before .before .before .before .before .before .before .before .before .before .before .before .before .args .number) in
-    then (now (c .before .before .before .before .before .before .before .before .before .before .before .before .before .before .before .before .before .before .args .out)) (c .before .before .before .before .before .before .put-field2 .last .0) (c .before .before .put-end-line .last .0) (refusedLine (c .before .before .before .before .before .before .before .before .before .before .before .before .before .before .before .before .before .before .args .place) (c .before .before .before .before .before .before .before .before .before .before .before .before .before .before .before .before .before .before .args .number)) (endLine (c .before .before .before .before .before .before .before .before .before .before .before .before .before .before .before .before .before .before .args .place)) (c .before .before .before .before .before .before .before .before .before .before .before .before .before .before .before .before .before .before .args .at) (c .before .before .before .before .before .before .put-field2 .result) (c .before .before .put-end-line .result) (c .before .before .before .before .before .before .put-field2 .kept .0 ∙ c .before .before .before .before .before .before .before .before .before .before .put-bytes .kept .0 ∙ c .before .before .before .before .before .before .before .before .before .before .before .before .before .before .before .put-field .kept .0)
-    (field-then (now (c .before .before .before .before .before .before .before .before .before .before .before .before .before .before .before .before .before .before .args .out)) (c .before .before .before .before .before .before .before .before .before .before .before .before .before .before .before .put-field .last .0) (c .before .before .before .before .before .before .put-field2 .last .0) (decimal (c .before .before .before .before .before .before .before .before .before .before .before .before .before .before .before .before .before .before .args .place)) 32 (ascii "- - " ++ (number ++ (10 ∷ []))) (c .before .before .before .before .before .before .before .before .before .before .before .before .before .before .before .before .before .before .args .at) (c .before .before .before .before .before .before .before .before .before .before .before .before .before .before .before .put-field .result) (c .before .before .before .before .before .before .put-field2 .result) (c .before .before .before .before .before .before .before .before .before .before .before .before .before .before .before .put-field .kept .0) (c .before .before .before .before .before .before .before .before .before .before .before .before .before .before .before .put-field .ensures)
+    let a = c .before .before .before .before .before .before .before .before .before .before .before .before .before .before .before .before .before .before .args in
+    let number = decimal (a .number) in
+    then (now (a .out)) (c .before .before .before .before .before .before .put-field2 .last .0) (c .before .before .put-end-line .last .0) (refusedLine (a .place) (a .number)) (endLine (a .place)) (a .at) (c .before .before .before .before .before .before .put-field2 .result) (c .before .before .put-end-line .result) (c .before .before .before .before .before .before .put-field2 .kept .0 ∙ c .before .before .before .before .before .before .before .before .before .before .put-bytes .kept .0 ∙ c .before .before .before .before .before .before .before .before .before .before .before .before .before .before .before .put-field .kept .0)
+    (field-then (now (a .out)) (c .before .before .before .before .before .before .before .before .before .before .before .before .before .before .before .put-field .last .0) (c .before .before .before .before .before .before .put-field2 .last .0) (decimal (a .place)) 32 (ascii "- - " ++ (number ++ (10 ∷ []))) (a .at) (c .before .before .before .before .before .before .before .before .before .before .before .before .before .before .before .put-field .result) (c .before .before .before .before .before .before .put-field2 .result) (c .before .before .before .before .before .before .before .before .before .before .before .before .before .before .before .put-field .kept .0) (c .before .before .before .before .before .before .before .before .before .before .before .before .before .before .before .put-field .ensures)
     (then (c .before .before .before .before .before .before .before .before .before .before .before .before .before .before .before .put-field .last .0) (c .before .before .before .before .before .before .before .before .before .before .put-bytes .last .0) (c .before .before .before .before .before .before .put-field2 .last .0) (ascii "- - ") (number ++ (10 ∷ [])) (c .before .before .before .before .before .before .before .before .before .before .before .before .before .before .before .put-field .result) (c .before .before .before .before .before .before .before .before .before .before .before .before .before .before .before .put-field .result + 4) (c .before .before .before .before .before .before .put-field2 .result) (c .before .before .before .before .before .before .before .before .before .before .put-bytes .kept .0)
     (put-ends (c .before .before .before .before .before .before .before .before .before .before .before .before .before .before .before .put-field .last .0) (c .before .before .before .before .before .before .before .before .before .before .put-bytes .last .0) (ascii "- - ") (c .before .before .before .before .before .before .before .before .before .before .before .before .before .before .before .put-field .result) (c .before .before .before .before .before .before .before .before .before .before .before .before .before .before .before .put-field .result + 4) refl (c .before .before .before .before .before .before .before .before .before .before .put-bytes .ensures))
     (c .before .before .before .before .before .before .put-field2 .ensures)))

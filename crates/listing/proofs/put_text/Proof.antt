@@ -27,20 +27,23 @@ same-length c = search needs
 
 returns : tie.Need-returns
 returns c =
-    put-behind (now (c .before .before .before .before .before .before .before .before .before .before .before .before .args .s)) (refusedLine 0 Number.TooLong ++ endLine 0) (text-too-long (now (c .before .before .before .before .before .before .before .before .before .before .before .before .args .s)) (c .before .before .before .before .if1 .taken))
-    (now (c .before .before .before .before .before .before .before .before .before .before .before .before .args .out)) (c .before .before .before .before .before .before .before .put-bytes .last .0) (c .before .before .put-refusal .last .0) (c .before .before .put-refusal .result) (c .before .before .before .before .before .before .before .put-bytes .kept .0) (c .before .before .before .before .before .before .before .put-bytes .ensures) (c .before .before .put-refusal .ensures)
+    let a = c .before .before .before .before .before .before .before .before .before .before .before .before .args in
+    put-behind (now (a .s)) (refusedLine 0 Number.TooLong ++ endLine 0) (text-too-long (now (a .s)) (c .before .before .before .before .if1 .taken))
+    (now (a .out)) (c .before .before .before .before .before .before .before .put-bytes .last .0) (c .before .before .put-refusal .last .0) (c .before .before .put-refusal .result) (c .before .before .before .before .before .before .before .put-bytes .kept .0) (c .before .before .before .before .before .before .before .put-bytes .ensures) (c .before .before .put-refusal .ensures)
 
 put-lines-requires : tie.Need-put-lines-requires
 put-lines-requires c κs =
-    (c .before .if1 .left, asks-behind (now (c .before .before .before .before .before .before .before .before .before .args .s)) (linesFrom (length (now (c .before .before .before .before .before .before .before .before .before .args .s))) 0 (now (c .before .before .before .before .before .before .before .before .before .args .s))) (text-listed (now (c .before .before .before .before .before .before .before .before .before .args .s)) (c .before .if1 .left)))
+    let a = c .before .before .before .before .before .before .before .before .before .args in
+    (c .before .if1 .left, asks-behind (now (a .s)) (linesFrom (length (now (a .s))) 0 (now (a .s))) (text-listed (now (a .s)) (c .before .if1 .left)))
 
 same-length-2 : tie.Need-same-length-2
 same-length-2 c = search needs
 
 returns-2 : tie.Need-returns-2
 returns-2 c =
-    put-behind (now (c .before .before .before .before .before .before .before .before .before .before .before .before .args .s)) (linesFrom (length (now (c .before .before .before .before .before .before .before .before .before .before .before .before .args .s))) 0 (now (c .before .before .before .before .before .before .before .before .before .before .before .before .args .s))) (text-listed (now (c .before .before .before .before .before .before .before .before .before .before .before .before .args .s)) (c .before .before .before .before .if1 .left))
-    (now (c .before .before .before .before .before .before .before .before .before .before .before .before .args .out)) (c .before .before .before .before .before .before .before .put-bytes .last .0) (c .before .before .put-lines .last .1 .0) (c .before .before .put-lines .result) (c .before .before .before .before .before .before .before .put-bytes .kept .0) (c .before .before .before .before .before .before .before .put-bytes .ensures) (c .before .before .put-lines .ensures)
+    let a = c .before .before .before .before .before .before .before .before .before .before .before .before .args in
+    put-behind (now (a .s)) (linesFrom (length (now (a .s))) 0 (now (a .s))) (text-listed (now (a .s)) (c .before .before .before .before .if1 .left))
+    (now (a .out)) (c .before .before .before .before .before .before .before .put-bytes .last .0) (c .before .before .put-lines .last .1 .0) (c .before .before .put-lines .result) (c .before .before .before .before .before .before .before .put-bytes .kept .0) (c .before .before .before .before .before .before .before .put-bytes .ensures) (c .before .before .put-lines .ensures)
 
 pub put-text-spec : {M : Type 1} → statement M
 put-text-spec =

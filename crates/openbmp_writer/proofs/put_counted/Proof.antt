@@ -20,7 +20,9 @@ same-length : tie.Need-same-length
 same-length c = search needs
 
 returns : tie.Need-returns
-returns c = put-counted (now (c .before .before .before .before .before .before .before .before .before .before .args .out)) _ _ (now (c .before .before .before .before .before .before .before .before .before .before .args .bytes)) (c .before .before .before .before .before .before .before .before .before .before .args .at) (c .before .before .before .before .before .before .before .before .before .before .pre .1) (c .before .before .before .before .before .before .put-u16 .ensures) (c .before .before .put-bytes .ensures)
+returns c =
+    let a = c .before .before .before .before .before .before .before .before .before .before .args in
+    put-counted (now (a .out)) _ _ (now (a .bytes)) (a .at) (c .before .before .before .before .before .before .before .before .before .before .pre .1) (c .before .before .before .before .before .before .put-u16 .ensures) (c .before .before .put-bytes .ensures)
 
 pub put-counted-spec : {M : Type 1} → statement M
 put-counted-spec =

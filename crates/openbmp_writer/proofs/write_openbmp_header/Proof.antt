@@ -37,16 +37,25 @@ short c = writable-is (c .before .before .before .before .args .header) (length 
 long : (c : tie.Else1) → (writable (c .before .before .before .before .args .header) (length (now (c .before .before .before .before .args .buffer)))) ≡ true → length (bytesOf (c .before .before .before .before .args .header) (now (c .before .before .before .before .args .buffer))) ≡ 78 + c .before .before .before .before .args .header .«admin_id» .length + c .before .before .before .before .args .header .«router_group» .length
 long c w = length-written (c .before .before .before .before .args .header) (now (c .before .before .before .before .args .buffer)) (typed (c .before .before .before .before) .octets .many) w
 
-asked : (c : tie.After-write-answer2) → c .write-answer2 .result ≡ writeAnswer (writable (c .before .before .before .before .before .before .before .before .before .args .header) (length (now (c .before .before .before .before .before .before .before .before .before .args .buffer)))) (78 + c .before .before .before .before .before .before .before .before .before .args .header .«admin_id» .length + c .before .before .before .before .before .before .before .before .before .args .header .«router_group» .length) (length (now (c .before .before .before .before .before .before .before .before .before .args .out)))
-asked c = c .write-answer2 .ensures ∙ ap (λ (b : Bool). writeAnswer b (78 + c .before .before .before .before .before .before .before .before .before .args .header .«admin_id» .length + c .before .before .before .before .before .before .before .before .before .args .header .«router_group» .length) (length (now (c .before .before .before .before .before .before .before .before .before .args .out)))) (sym (okay (c .before .before .before .before .before)))
+asked : (c : tie.After-write-answer2)
+    → (let a = c .before .before .before .before .before .before .before .before .before .args in
+    c .write-answer2 .result ≡ writeAnswer (writable (a .header) (length (now (a .buffer)))) (78 + a .header .«admin_id» .length + a .header .«router_group» .length) (length (now (a .out))))
+asked c =
+    let a = c .before .before .before .before .before .before .before .before .before .args in
+    c .write-answer2 .ensures ∙ ap (λ (b : Bool). writeAnswer b (78 + a .header .«admin_id» .length + a .header .«router_group» .length) (length (now (a .out)))) (sym (okay (c .before .before .before .before .before)))
 
-room : (c : tie.After-enum-told) → 78 + c .before .before .before .before .before .before .before .before .before .before .before .args .header .«admin_id» .length + c .before .before .before .before .before .before .before .before .before .before .before .args .header .«router_group» .length ≤ length (now (c .before .before .before .before .before .before .before .before .before .before .before .args .out))
+room : (c : tie.After-enum-told)
+    → (let a = c .before .before .before .before .before .before .before .before .before .before .before .args in
+    78 + a .header .«admin_id» .length + a .header .«router_group» .length ≤ length (now (a .out)))
 room c =
-    subst (λ (k : ℕ). k ≤ length (now (c .before .before .before .before .before .before .before .before .before .before .before .args .out))) (long (c .before .before .before .before .before .before .before) (okay (c .before .before .before .before .before .before .before)))
-    (wrote _ (bytesOf (c .before .before .before .before .before .before .before .before .before .before .before .args .header) (now (c .before .before .before .before .before .before .before .before .before .before .before .args .buffer))) (now (c .before .before .before .before .before .before .before .before .before .before .before .args .out)) _ (long (c .before .before .before .before .before .before .before)) _ (asked (c .before .before)) _ (c .enum-told .given .1) .fits)
+    let a = c .before .before .before .before .before .before .before .before .before .before .before .args in
+    subst (λ (k : ℕ). k ≤ length (now (a .out))) (long (c .before .before .before .before .before .before .before) (okay (c .before .before .before .before .before .before .before)))
+    (wrote _ (bytesOf (a .header) (now (a .buffer))) (now (a .out)) _ (long (c .before .before .before .before .before .before .before)) _ (asked (c .before .before)) _ (c .enum-told .given .1) .fits)
 
 after-front : (c : tie.After-put-front) → length (c .put-front .last .1 .1 .1 .0) ≡ length (now (c .before .before .before .before .before .before .before .before .before .before .before .before .before .before .before .before .args .out))
-after-front c = ap length (c .put-front .ensures) ∙ length-put (now (c .before .before .before .before .before .before .before .before .before .before .before .before .before .before .before .before .args .out)) 0 (frontBytes (c .before .before .before .before .before .before .before .before .before .before .before .before .before .before .before .before .args .header .«header_len») (c .before .before .before .before .before .before .before .before .before .before .before .before .before .before .before .before .args .header .«msg_len») (c .before .before .flags-of .result))
+after-front c =
+    let a = c .before .before .before .before .before .before .before .before .before .before .before .before .before .before .before .before .args in
+    ap length (c .put-front .ensures) ∙ length-put (now (a .out)) 0 (frontBytes (a .header .«header_len») (a .header .«msg_len») (c .before .before .flags-of .result))
 
 after-time : (c : tie.After-put-time) → length (c .put-time .last .1 .1 .0) ≡ length (now (c .before .before .before .before .before .before .before .before .before .before .before .before .before .before .before .before .before .before .before .before .args .out))
 after-time c =
@@ -116,14 +125,15 @@ same-length c = search needs
 
 returns-3 : tie.Need-returns-3
 returns-3 c =
-    let h = c .before .before .before .before .before .before .before .before .before .before .before .before .before .before .before .before .before .before .before .before .before .before .before .before .before .before .before .before .args .header in
-    let b = now (c .before .before .before .before .before .before .before .before .before .before .before .before .before .before .before .before .before .before .before .before .before .before .before .before .before .before .before .before .args .buffer) in
+    let a = c .before .before .before .before .before .before .before .before .before .before .before .before .before .before .before .before .before .before .before .before .before .before .before .before .before .before .before .before .args in
+    let h = a .header in
+    let b = now (a .buffer) in
     let s = bytesOf h b in
     let r = room (c .before .before .before .before .before .before .before .before .before .before .before .before .before .before .before .before .before) in
     let n = lengths (c .before .before .before .before) in
-    let all = put-written h b (okay (c .before .before .before .before .before .before .before .before .before .before .before .before .before .before .before .before .before .before .before .before .before .before .before .before)) _ _ (c .before .before .before .before .before .part .ensures) (c .before .before .before .before .part2 .ensures) (c .before .before .before .before .before .before .before .before .before .before .before .before .before .before .flags-of .result) (now (c .before .before .before .before .before .before .before .before .before .before .before .before .before .before .before .before .before .before .before .before .before .before .before .before .before .before .before .before .args .out)) _ _ _
+    let all = put-written h b (okay (c .before .before .before .before .before .before .before .before .before .before .before .before .before .before .before .before .before .before .before .before .before .before .before .before)) _ _ (c .before .before .before .before .before .part .ensures) (c .before .before .before .before .part2 .ensures) (c .before .before .before .before .before .before .before .before .before .before .before .before .before .before .flags-of .result) (now (a .out)) _ _ _
     (typed (c .before .before .before .before .before .before .before .before .before .before .before .before .before .before .before .before .before .before .before .before .before .before .before .before .before .before .before .before) .octets .many) (omega (arith, r, n .0, n .1)) (c .before .before .before .before .before .before .before .before .before .before .before .before .before .before .flags-of .ensures) (c .before .before .before .before .before .before .before .before .before .before .before .before .put-front .ensures) (c .before .before .before .before .before .before .before .before .put-time .ensures) (c .before .before .put-rest .ensures) in
-    put-there _ s (now (c .before .before .before .before .before .before .before .before .before .before .before .before .before .before .before .before .before .before .before .before .before .before .before .before .before .before .before .before .args .out)) _ (long (c .before .before .before .before .before .before .before .before .before .before .before .before .before .before .before .before .before .before .before .before .before .before .before .before)) _ (asked (c .before .before .before .before .before .before .before .before .before .before .before .before .before .before .before .before .before .before .before)) _ (c .before .before .before .before .before .before .before .before .before .before .before .before .before .before .before .before .before .enum-told .given .1) _ all
+    put-there _ s (now (a .out)) _ (long (c .before .before .before .before .before .before .before .before .before .before .before .before .before .before .before .before .before .before .before .before .before .before .before .before)) _ (asked (c .before .before .before .before .before .before .before .before .before .before .before .before .before .before .before .before .before .before .before)) _ (c .before .before .before .before .before .before .before .before .before .before .before .before .before .before .before .before .before .enum-told .given .1) _ all
 
 pub write-openbmp-header-spec : {M : Type 1} → statement M
 write-openbmp-header-spec =

@@ -34,7 +34,9 @@ part-is c = c .part .ensures ∙ ap (viewed (now (c .before .before .before .bef
 long : (c : tie.After-part) → writable (c .before .before .before .before .before .before .before .args .notification) (length (now (c .before .before .before .before .before .before .before .args .buffer))) ≡ true → length (bytesOf (c .before .before .before .before .before .before .before .args .notification) (now (c .before .before .before .before .before .before .before .args .buffer))) ≡ 1 + length (now (c .part .result))
 long c w = bytes-long (c .before .before .before .before .before .before .before .args .notification) (now (c .before .before .before .before .before .before .before .args .buffer)) (now (c .part .result)) (part-is c)
 
-asked : (c : tie.After-write-answer2) → c .write-answer2 .result ≡ writeAnswer (writable (c .before .before .before .before .before .before .before .before .args .notification) (length (now (c .before .before .before .before .before .before .before .before .args .buffer)))) (1 + length (now (c .before .part .result))) (length (now (c .before .before .before .before .before .before .before .before .args .out)))
+asked : (c : tie.After-write-answer2)
+    → (let a = c .before .before .before .before .before .before .before .before .args in
+    c .write-answer2 .result ≡ writeAnswer (writable (a .notification) (length (now (a .buffer)))) (1 + length (now (c .before .part .result))) (length (now (a .out))))
 asked c = c .write-answer2 .ensures ∙ rw (is-ok (c .before .before))
 
 view-of-requires : tie.Need-view-of-requires

@@ -30,7 +30,8 @@ abbrev μ-loop : tie.MeasureT-loop
 onward-at : (c : tie.After-known-told4 Inv-loop μ-loop)
     → TurnTo kit takes (c .before .before .before .before .loop .count) (c .before .before .before .before .loop .at) (c .before .before .before .before .loop .tlvs) (now (c .before .before .before .before .before .before .before .before .before .before .before .before .args .s)) (shownTlv (c .before .kind .given .0 .0) (c .before .kind .given .0 .1 .0) (c .before .kind .given .0 .1 .1 .0)) (c .before .kind .given .0 .1 .1 .1 .0 .at)
 onward-at c =
-    onward (c .before .before .before .before .loop .count) (c .before .before .before .before .loop .at) (c .before .before .before .before .loop .tlvs) (now (c .before .before .before .before .before .before .before .before .before .before .before .before .args .s)) _ _ _ _ (c .before .before .before .before .loop .inv .0 .0) (c .before .before .before .before .loop .inv .0 .1) (sym (c .before .before .before .step-at .ensures) ∙ c .before .kind .given .1)
+    let k = c .before .before .before .before .loop in
+    onward (k .count) (k .at) (k .tlvs) (now (c .before .before .before .before .before .before .before .before .before .before .before .before .args .s)) _ _ _ _ (k .inv .0 .0) (k .inv .0 .1) (sym (c .before .before .before .step-at .ensures) ∙ c .before .kind .given .1)
 
 -- the answer by what the walk finds
 answer-by : (c : tie.After-step-at Inv-loop μ-loop) (o : Out PeerUpNotificationTlv) → onwards kit (c .before .loop .count) (c .before .loop .at) (c .before .loop .tlvs) (now (c .before .before .before .before .before .before .before .before .before .args .s)) ≡ o
@@ -90,8 +91,9 @@ refused-requires-2 c κs = search needs
 
 returns-2 : tie.Need-returns-2 Inv-loop μ-loop
 returns-2 c =
+    let k = c .before .before .before .before .before .loop in
     c .refused2 .ensures
-    ∙ sym (answer-by (c .before .before .before .before) _ (refuses (c .before .before .before .before .before .loop .count) (c .before .before .before .before .before .loop .at) (c .before .before .before .before .before .loop .tlvs) (now (c .before .before .before .before .before .before .before .before .before .before .before .before .before .args .s)) _ (c .before .before .before .before .before .loop .inv .0 .0) (sym (c .before .before .before .before .step-at .ensures) ∙ c .before .before .refusal2 .given .1)))
+    ∙ sym (answer-by (c .before .before .before .before) _ (refuses (k .count) (k .at) (k .tlvs) (now (c .before .before .before .before .before .before .before .before .before .before .before .before .before .args .s)) _ (k .inv .0 .0) (sym (c .before .before .before .before .step-at .ensures) ∙ c .before .before .refusal2 .given .1)))
 
 enum-known-kind : tie.Need-enum-known-kind Inv-loop μ-loop
 enum-known-kind c = search needs

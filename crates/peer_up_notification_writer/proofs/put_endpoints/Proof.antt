@@ -25,7 +25,9 @@ same-length : tie.Need-same-length
 same-length c = search needs
 
 returns : tie.Need-returns
-returns c = put-ends (c .before .before .before .before .before .before .before .before .before .before .before .before .before .before .before .args .local-addr) (c .before .before .before .before .before .before .before .before .before .before .before .before .before .before .before .args .local-port) (c .before .before .before .before .before .before .before .before .before .before .before .before .before .before .before .args .remote-port) (now (c .before .before .before .before .before .before .before .before .before .before .before .before .before .before .before .args .out)) _ _ _ (sixteen (c .before .before .before .before .before .before .before .before .before .before .before .before .before .before .before)) (c .before .before .before .before .before .before .before .before .before .before .before .before .before .before .before .pre) (c .before .before .before .before .before .before .before .before .before .before .put-bytes .ensures) (c .before .before .before .before .before .before .put-u16 .ensures) (c .before .before .put-u162 .ensures)
+returns c =
+    let a = c .before .before .before .before .before .before .before .before .before .before .before .before .before .before .before .args in
+    put-ends (a .local-addr) (a .local-port) (a .remote-port) (now (a .out)) _ _ _ (sixteen (c .before .before .before .before .before .before .before .before .before .before .before .before .before .before .before)) (c .before .before .before .before .before .before .before .before .before .before .before .before .before .before .before .pre) (c .before .before .before .before .before .before .before .before .before .before .put-bytes .ensures) (c .before .before .before .before .before .before .put-u16 .ensures) (c .before .before .put-u162 .ensures)
 
 pub put-endpoints-spec : {M : Type 1} → statement M
 put-endpoints-spec =

@@ -24,7 +24,9 @@ same-length : tie.Need-same-length
 same-length c = search needs
 
 returns : tie.Need-returns
-returns c = put-both (now (c .before .before .before .before .before .before .before .before .before .before .before .before .args .buffer)) (c .before .before .before .before .before .before .before .before .before .before .before .before .args .sent-open) (c .before .before .before .before .before .before .before .before .before .before .before .before .args .received-open) (now (c .before .before .before .before .before .before .before .before .before .before .before .before .args .out)) _ _ _ _ _ (c .before .before .before .before .before .before .before .before .before .part .ensures) (c .before .before .before .before .before .before .before .before .part2 .ensures) refl (c .before .before .before .before .before .before .before .before .before .before .before .before .pre) (c .before .before .before .before .before .before .put-bytes .ensures) (c .before .before .put-bytes2 .ensures)
+returns c =
+    let a = c .before .before .before .before .before .before .before .before .before .before .before .before .args in
+    put-both (now (a .buffer)) (a .sent-open) (a .received-open) (now (a .out)) _ _ _ _ _ (c .before .before .before .before .before .before .before .before .before .part .ensures) (c .before .before .before .before .before .before .before .before .part2 .ensures) refl (c .before .before .before .before .before .before .before .before .before .before .before .before .pre) (c .before .before .before .before .before .before .put-bytes .ensures) (c .before .before .put-bytes2 .ensures)
 
 pub put-opens-spec : {M : Type 1} → statement M
 put-opens-spec =

@@ -47,17 +47,25 @@ buffer-bytes c = slice-bytes (now (c .before .args .buffer)) (λ i. omega (arith
 fine : (c : tie.Else2 Inv-loop μ-loop Inv-loop2 μ-loop2) → FineFront (c .before .before .before .before .before .before .before .before .args .t1) (now (c .before .before .before .before .before .before .before .before .args .buffer))
 fine c = front-of (c .before .before .before .before .before .before .before .before .args .t1) (now (c .before .before .before .before .before .before .before .before .args .buffer)) (sym (c .before .front-writable .ensures) ∙ not-false (c .before .front-writable .result) (c .if2 .left))
 
-long : (c : tie.Else2 Inv-loop μ-loop Inv-loop2 μ-loop2) → length (frontBytes (c .before .before .before .before .before .before .before .before .args .t1) (now (c .before .before .before .before .before .before .before .before .args .buffer))) ≡ 20 + (c .before .before .before .before .before .before .before .before .args .t1 .«sent_open» .length + c .before .before .before .before .before .before .before .before .args .t1 .«received_open» .length)
+long : (c : tie.Else2 Inv-loop μ-loop Inv-loop2 μ-loop2)
+    → (let a = c .before .before .before .before .before .before .before .before .args in
+    length (frontBytes (a .t1) (now (a .buffer))) ≡ 20 + (a .t1 .«sent_open» .length + a .t1 .«received_open» .length))
 long c = length-front (c .before .before .before .before .before .before .before .before .args .t1) (now (c .before .before .before .before .before .before .before .before .args .buffer)) (fine c) (typed (c .before .before .before .before .before .before .before .before) .octets .many)
 
 asked : (c : tie.After-write-answer4 Inv-loop μ-loop Inv-loop2 μ-loop2)
-    → Asked writer (c .before .before .before .before .before .before .before .before .before .before .before .before .before .args .t1 .tlvs) (c .before .before .before .before .before .before .before .before .before .before .before .before .before .args .t1 .count) (now (c .before .before .before .before .before .before .before .before .before .before .before .before .before .args .buffer)) (writable (c .before .before .before .before .before .before .before .before .before .before .before .before .before .args .t1) (now (c .before .before .before .before .before .before .before .before .before .before .before .before .before .args .buffer))) (frontBytes (c .before .before .before .before .before .before .before .before .before .before .before .before .before .args .t1) (now (c .before .before .before .before .before .before .before .before .before .before .before .before .before .args .buffer))) (bytesOf (c .before .before .before .before .before .before .before .before .before .before .before .before .before .args .t1) (now (c .before .before .before .before .before .before .before .before .before .before .before .before .before .args .buffer))) (now (c .before .before .before .before .before .before .before .before .before .before .before .before .before .args .out)) (c .before .before .loop .length) (c .write-answer4 .result)
+    → (let a = c .before .before .before .before .before .before .before .before .before .before .before .before .before .args in
+    Asked writer (a .t1 .tlvs) (a .t1 .count) (now (a .buffer)) (writable (a .t1) (now (a .buffer))) (frontBytes (a .t1) (now (a .buffer))) (bytesOf (a .t1) (now (a .buffer))) (now (a .out)) (c .before .before .loop .length) (c .write-answer4 .result))
 asked c =
-    measured-asks {front = frontBytes (c .before .before .before .before .before .before .before .before .before .before .before .before .before .args .t1) (now (c .before .before .before .before .before .before .before .before .before .before .before .before .before .args .buffer))} (c .before .before .loop .inv) (c .before .loop-test .left) (long (c .before .before .before .before .before))
-    (λ o. bytes-are (c .before .before .before .before .before .before .before .before .before .before .before .before .before .args .t1) (now (c .before .before .before .before .before .before .before .before .before .before .before .before .before .args .buffer)) (buffer-bytes (c .before .before .before .before .before .before .before .before .before .before .before .before)) (writes-of (c .before .before .before .before .before .before .before .before .before .before .before .before .before .args .t1) (now (c .before .before .before .before .before .before .before .before .before .before .before .before .before .args .buffer)) o .front)) (c .write-answer4 .ensures)
+    let a = c .before .before .before .before .before .before .before .before .before .before .before .before .before .args in
+    measured-asks {front = frontBytes (a .t1) (now (a .buffer))} (c .before .before .loop .inv) (c .before .loop-test .left) (long (c .before .before .before .before .before))
+    (λ o. bytes-are (a .t1) (now (a .buffer)) (buffer-bytes (c .before .before .before .before .before .before .before .before .before .before .before .before)) (writes-of (a .t1) (now (a .buffer)) o .front)) (c .write-answer4 .ensures)
 
-front-there : (c : tie.After-put-opens Inv-loop μ-loop Inv-loop2 μ-loop2) → c .put-opens .last .0 ≡ sets (now (c .before .before .before .before .before .before .before .before .before .before .before .before .before .before .before .before .before .before .before .before .before .args .out)) 0 (frontBytes (c .before .before .before .before .before .before .before .before .before .before .before .before .before .before .before .before .before .before .before .before .before .args .t1) (now (c .before .before .before .before .before .before .before .before .before .before .before .before .before .before .before .before .before .before .before .before .before .args .buffer)))
-front-there c = front-put (c .before .before .before .before .before .before .before .before .before .before .before .before .before .before .before .before .before .before .before .before .before .args .t1) (now (c .before .before .before .before .before .before .before .before .before .before .before .before .before .before .before .before .before .before .before .before .before .args .buffer)) (now (c .before .before .before .before .before .before .before .before .before .before .before .before .before .before .before .before .before .before .before .before .before .args .out)) _ _ (typed (c .before .before .before .before .before .before .before .before .before .before .before .before .before .before .before .before .before .before .before .before .before) .octets .many) (c .before .before .before .before .put-endpoints .ensures) (c .put-opens .ensures)
+front-there : (c : tie.After-put-opens Inv-loop μ-loop Inv-loop2 μ-loop2)
+    → (let a = c .before .before .before .before .before .before .before .before .before .before .before .before .before .before .before .before .before .before .before .before .before .args in
+    c .put-opens .last .0 ≡ sets (now (a .out)) 0 (frontBytes (a .t1) (now (a .buffer))))
+front-there c =
+    let a = c .before .before .before .before .before .before .before .before .before .before .before .before .before .before .before .before .before .before .before .before .before .args in
+    front-put (a .t1) (now (a .buffer)) (now (a .out)) _ _ (typed (c .before .before .before .before .before .before .before .before .before .before .before .before .before .before .before .before .before .before .before .before .before) .octets .many) (c .before .before .before .before .put-endpoints .ensures) (c .put-opens .ensures)
 
 write-answer-requires : tie.Need-write-answer-requires Inv-loop μ-loop Inv-loop2 μ-loop2
 write-answer-requires c κs = search needs
@@ -83,8 +91,9 @@ add-front-2 c = omega (arith, fine (c .before .before) .sent .size-fits, fine (c
 
 loop-holds : tie.Need-loop-holds Inv-loop μ-loop Inv-loop2 μ-loop2
 loop-holds c =
-    measured-starts (omega (arith, table-long (c .before .before .before .before .before .before .before .before .before .before .args .t1) _ (c .before .before .before .before .before .before .before .before .before .before .good .0), c .before .before .before .before .if1 .left))
-    (tlvs-decide (c .before .before .before .before .before .before .before .before .before .before .args .t1) (now (c .before .before .before .before .before .before .before .before .before .before .args .buffer)) (c .before .before .before .before .if1 .left) (sym (c .before .before .before .front-writable .ensures) ∙ not-false (c .before .before .before .front-writable .result) (c .before .before .if2 .left)))
+    let a = c .before .before .before .before .before .before .before .before .before .before .args in
+    measured-starts (omega (arith, table-long (a .t1) _ (c .before .before .before .before .before .before .before .before .before .before .good .0), c .before .before .before .before .if1 .left))
+    (tlvs-decide (a .t1) (now (a .buffer)) (c .before .before .before .before .if1 .left) (sym (c .before .before .before .front-writable .ensures) ∙ not-false (c .before .before .before .front-writable .result) (c .before .before .if2 .left)))
 
 mul-tlv : tie.Need-mul-tlv Inv-loop μ-loop Inv-loop2 μ-loop2
 mul-tlv c = search needs
@@ -138,9 +147,10 @@ put-endpoints-requires c κs = omega (arith, asked-room (bodied entries) (asked 
 
 put-opens-requires : tie.Need-put-opens-requires Inv-loop μ-loop Inv-loop2 μ-loop2
 put-opens-requires c κs =
+    let a = c .before .before .before .before .before .before .before .before .before .before .before .before .before .before .before .before .before .before .before .before .args in
     let f = fine (c .before .before .before .before .before .before .before .before .before .before .before .before) in
-    let n = length-opens (now (c .before .before .before .before .before .before .before .before .before .before .before .before .before .before .before .before .before .before .before .before .args .buffer)) (c .before .before .before .before .before .before .before .before .before .before .before .before .before .before .before .before .before .before .before .before .args .t1 .«sent_open») (c .before .before .before .before .before .before .before .before .before .before .before .before .before .before .before .before .before .before .before .before .args .t1 .«received_open») (f .sent) (f .received) in
-    let same = ap length (c .before .before .before .put-endpoints .ensures) ∙ length-sets (now (c .before .before .before .before .before .before .before .before .before .before .before .before .before .before .before .before .before .before .before .before .args .out)) 0 (endpointBytes (c .before .before .before .before .before .before .before .before .before .before .before .before .before .before .before .before .before .before .before .before .args .t1 .«local_addr») (c .before .before .before .before .before .before .before .before .before .before .before .before .before .before .before .before .before .before .before .before .args .t1 .«local_port») (c .before .before .before .before .before .before .before .before .before .before .before .before .before .before .before .before .before .before .before .before .args .t1 .«remote_port»)) in
+    let n = length-opens (now (a .buffer)) (a .t1 .«sent_open») (a .t1 .«received_open») (f .sent) (f .received) in
+    let same = ap length (c .before .before .before .put-endpoints .ensures) ∙ length-sets (now (a .out)) 0 (endpointBytes (a .t1 .«local_addr») (a .t1 .«local_port») (a .t1 .«remote_port»)) in
     omega (arith, asked-room (bodied entries) (asked (c .before .before .before .before .before .before .before)) (c .before .before .before .before .before .enum-told .given .1), long (c .before .before .before .before .before .before .before .before .before .before .before .before), n, same)
 
 loop2-holds : tie.Need-loop2-holds Inv-loop μ-loop Inv-loop2 μ-loop2

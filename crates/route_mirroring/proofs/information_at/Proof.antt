@@ -30,8 +30,9 @@ refusal-at-requires c κs = search needs
 
 returns : tie.Need-returns
 returns c =
+    let a = c .before .before .before .before .before .before .before .args in
     let w = was-code (c .before .before) in
-    ap Bad (c .refusal-at .ensures) ∙ sym (unknown-at (now (c .before .before .before .before .before .before .before .args .s)) (c .before .before .before .before .before .before .before .args .at) (c .before .before .before .before .before .before .before .args .size) (c .before .before .before .before .before .before .before .pre .0) (c .before .before .before .before .before .before .before .args .value .at) (c .before .before .before .before .before .before .before .pre .1) (w .left) _ (code-is (c .before .before)) (c .before .if1 .taken))
+    ap Bad (c .refusal-at .ensures) ∙ sym (unknown-at (now (a .s)) (a .at) (a .size) (c .before .before .before .before .before .before .before .pre .0) (a .value .at) (c .before .before .before .before .before .before .before .pre .1) (w .left) _ (code-is (c .before .before)) (c .before .if1 .taken))
 
 cast-t12 : tie.Need-cast-t12
 cast-t12 c = search needs
@@ -45,8 +46,9 @@ returns-2 c =
 
 returns-3 : tie.Need-returns-3
 returns-3 c =
+    let a = c .before .before .before .before .before .before .args in
     let w = was-code (c .before) in
-    sym (information-there (now (c .before .before .before .before .before .before .args .s)) (c .before .before .before .before .before .before .args .at) (c .before .before .before .before .before .before .args .size) (c .before .before .before .before .before .before .pre .0) (c .before .before .before .before .before .before .args .value .at) (c .before .before .before .before .before .before .pre .1) (w .left) _ (code-is (c .before)) (c .if1 .left) _ (w .next))
+    sym (information-there (now (a .s)) (a .at) (a .size) (c .before .before .before .before .before .before .pre .0) (a .value .at) (c .before .before .before .before .before .before .pre .1) (w .left) _ (code-is (c .before)) (c .if1 .left) _ (w .next))
 
 pub information-at-spec : {M : Type 1} → statement M
 information-at-spec =

@@ -12,7 +12,9 @@ use Rattle.route_monitoring_writer.specs.Write.{bytesOf, writable}
 use Rattle.route_monitoring_writer.proofs.write_route_monitoring.Statement.{statement}
 use Rattle.route_monitoring_writer.proofs.write_route_monitoring.Tie as tie
 
-asked : (c : tie.After-write-answer) → c .write-answer .result ≡ writeAnswer (writable (c .before .before .before .before .before .before .args .message) (length (now (c .before .before .before .before .before .before .args .buffer)))) (length (bytesOf (c .before .before .before .before .before .before .args .message) (now (c .before .before .before .before .before .before .args .buffer)))) (length (now (c .before .before .before .before .before .before .args .out)))
+asked : (c : tie.After-write-answer)
+    → (let a = c .before .before .before .before .before .before .args in
+    c .write-answer .result ≡ writeAnswer (writable (a .message) (length (now (a .buffer)))) (length (bytesOf (a .message) (now (a .buffer)))) (length (now (a .out))))
 asked c = c .write-answer .ensures ∙ (λ i. writeAnswer (c .before .is-writable .ensures i) (length (c .before .before .part .ensures i)) (length (now (c .before .before .before .before .before .before .args .out))))
 
 part-requires : tie.Need-part-requires

@@ -21,7 +21,9 @@ same-length c = search needs
 
 returns : tie.Need-returns
 unfolding be
-returns c = sym (put-nothing (now (c .before .before .before .before .args .out)) (c .before .before .before .before .args .at) (valueBytes (afi-safi-gauge (c .before .before .before .before .args .afi) (c .before .before .before .before .args .safi) (c .before .before .before .before .args .n))) (omega arith))
+returns c =
+    let a = c .before .before .before .before .args in
+    sym (put-nothing (now (a .out)) (a .at) (valueBytes (afi-safi-gauge (a .afi) (a .safi) (a .n))) (omega arith))
 
 add-safi-at : tie.Need-add-safi-at
 add-safi-at c = search needs

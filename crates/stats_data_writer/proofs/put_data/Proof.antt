@@ -38,27 +38,34 @@ same-length : tie.Need-same-length
 same-length c = search needs
 
 returns : tie.Need-returns
-returns c = c .before .before .put-u32 .ensures ∙ ap (λ (d : StatsData). putAt (now (c .before .before .before .before .before .before .before .before .before .args .out)) (c .before .before .before .before .before .before .before .before .before .args .at) (dataBytes (now (c .before .before .before .before .before .before .before .before .before .args .buffer)) d)) (sym (c .before .before .before .before .before .stat-data .given .1))
+returns c =
+    let a = c .before .before .before .before .before .before .before .before .before .args in
+    c .before .before .put-u32 .ensures ∙ ap (λ (d : StatsData). putAt (now (a .out)) (a .at) (dataBytes (now (a .buffer)) d)) (sym (c .before .before .before .before .before .stat-data .given .1))
 
 same-length-2 : tie.Need-same-length-2
 same-length-2 c = search needs
 
 returns-2 : tie.Need-returns-2
-returns-2 c = c .before .before .put-u64 .ensures ∙ ap (λ (d : StatsData). putAt (now (c .before .before .before .before .before .before .before .before .before .args .out)) (c .before .before .before .before .before .before .before .before .before .args .at) (dataBytes (now (c .before .before .before .before .before .before .before .before .before .args .buffer)) d)) (sym (c .before .before .before .before .before .stat-data2 .given .1))
+returns-2 c =
+    let a = c .before .before .before .before .before .before .before .before .before .args in
+    c .before .before .put-u64 .ensures ∙ ap (λ (d : StatsData). putAt (now (a .out)) (a .at) (dataBytes (now (a .buffer)) d)) (sym (c .before .before .before .before .before .stat-data2 .given .1))
 
 same-length-3 : tie.Need-same-length-3
 same-length-3 c = search needs
 
 returns-3 : tie.Need-returns-3
-returns-3 c = c .before .before .put-afi-safi-gauge .ensures ∙ ap (λ (d : StatsData). putAt (now (c .before .before .before .before .before .before .before .before .before .args .out)) (c .before .before .before .before .before .before .before .before .before .args .at) (dataBytes (now (c .before .before .before .before .before .before .before .before .before .args .buffer)) d)) (sym (c .before .before .before .before .before .stat-data3 .given .1))
+returns-3 c =
+    let a = c .before .before .before .before .before .before .before .before .before .args in
+    c .before .before .put-afi-safi-gauge .ensures ∙ ap (λ (d : StatsData). putAt (now (a .out)) (a .at) (dataBytes (now (a .buffer)) d)) (sym (c .before .before .before .before .before .stat-data3 .given .1))
 
 same-length-4 : tie.Need-same-length-4
 same-length-4 c = search needs
 
 returns-4 : tie.Need-returns-4
 returns-4 c =
-    c .before .before .put-bytes .ensures ∙ ap (putAt (now (c .before .before .before .before .before .before .before .before .before .before .args .out)) (c .before .before .before .before .before .before .before .before .before .before .args .at)) (c .before .before .before .part .ensures)
-    ∙ ap (λ (d : StatsData). putAt (now (c .before .before .before .before .before .before .before .before .before .before .args .out)) (c .before .before .before .before .before .before .before .before .before .before .args .at) (dataBytes (now (c .before .before .before .before .before .before .before .before .before .before .args .buffer)) d)) (sym (c .before .before .before .before .before .before .stat-data4 .given .1))
+    let a = c .before .before .before .before .before .before .before .before .before .before .args in
+    c .before .before .put-bytes .ensures ∙ ap (putAt (now (a .out)) (a .at)) (c .before .before .before .part .ensures)
+    ∙ ap (λ (d : StatsData). putAt (now (a .out)) (a .at) (dataBytes (now (a .buffer)) d)) (sym (c .before .before .before .before .before .before .stat-data4 .given .1))
 
 pub put-data-spec : {M : Type 1} → statement M
 put-data-spec =

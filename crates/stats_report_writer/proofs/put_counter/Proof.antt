@@ -19,7 +19,8 @@ put-u16-requires c κs = search needs
 
 add-put-u16 : tie.Need-add-put-u16
 add-put-u16 c =
-    let n = length-tlv (c .before .before .before .before .before .before .before .before .args .counter .kind) (c .before .before .before .before .before .before .before .before .args .counter .«stat_len») (dataBytes (now (c .before .before .before .before .before .before .before .before .args .buffer)) (dataIn (c .before .before .before .before .before .before .before .before .args .counter))) in
+    let a = c .before .before .before .before .before .before .before .before .args in
+    let n = length-tlv (a .counter .kind) (a .counter .«stat_len») (dataBytes (now (a .buffer)) (dataIn (a .counter))) in
     omega (arith, n, c .before .before .before .before .before .before .before .before .pre)
 
 put-u16-requires-2 : tie.Need-put-u16-requires-2
@@ -27,7 +28,8 @@ put-u16-requires-2 c κs = search needs
 
 add-put-data : tie.Need-add-put-data
 add-put-data c =
-    let n = length-tlv (c .before .before .before .before .before .before .before .before .before .before .before .before .args .counter .kind) (c .before .before .before .before .before .before .before .before .before .before .before .before .args .counter .«stat_len») (dataBytes (now (c .before .before .before .before .before .before .before .before .before .before .before .before .args .buffer)) (dataIn (c .before .before .before .before .before .before .before .before .before .before .before .before .args .counter))) in
+    let a = c .before .before .before .before .before .before .before .before .before .before .before .before .args in
+    let n = length-tlv (a .counter .kind) (a .counter .«stat_len») (dataBytes (now (a .buffer)) (dataIn (a .counter))) in
     omega (arith, n, c .before .before .before .before .before .before .before .before .before .before .before .before .pre)
 
 put-data-requires : tie.Need-put-data-requires
@@ -38,11 +40,12 @@ same-length c = search needs
 
 returns : tie.Need-returns
 returns c =
-    let t = c .before .before .before .before .before .before .before .before .before .before .before .before .before .before .before .args .counter in
-    let v = dataBytes (now (c .before .before .before .before .before .before .before .before .before .before .before .before .before .before .before .args .buffer)) (dataIn t) in
+    let a = c .before .before .before .before .before .before .before .before .before .before .before .before .before .before .before .args in
+    let t = a .counter in
+    let v = dataBytes (now (a .buffer)) (dataIn t) in
     let n = length-tlv (t .kind) (t .«stat_len») v in
-    let data-put = c .before .before .put-data .ensures ∙ ap (λ (d : StatsData). putAt (c .before .before .before .before .before .before .put-u162 .last .0) (c .before .before .before .before .before .before .before .before .before .before .before .before .before .before .before .args .at + 4) (dataBytes (now (c .before .before .before .before .before .before .before .before .before .before .before .before .before .before .before .args .buffer)) d)) (c .before .before .before .before .before .before .before .before .before .before .before .before .stat-data .ensures) in
-    put-three (t .kind) (t .«stat_len») v (now (c .before .before .before .before .before .before .before .before .before .before .before .before .before .before .before .args .out)) _ _ _ (c .before .before .before .before .before .before .before .before .before .before .before .before .before .before .before .args .at) (omega (arith, n, c .before .before .before .before .before .before .before .before .before .before .before .before .before .before .before .pre)) (c .before .before .before .before .before .before .before .before .before .before .put-u16 .ensures) (c .before .before .before .before .before .before .put-u162 .ensures) data-put
+    let data-put = c .before .before .put-data .ensures ∙ ap (λ (d : StatsData). putAt (c .before .before .before .before .before .before .put-u162 .last .0) (a .at + 4) (dataBytes (now (a .buffer)) d)) (c .before .before .before .before .before .before .before .before .before .before .before .before .stat-data .ensures) in
+    put-three (t .kind) (t .«stat_len») v (now (a .out)) _ _ _ (a .at) (omega (arith, n, c .before .before .before .before .before .before .before .before .before .before .before .before .before .before .before .pre)) (c .before .before .before .before .before .before .before .before .before .before .put-u16 .ensures) (c .before .before .before .before .before .before .put-u162 .ensures) data-put
 
 pub put-counter-spec : {M : Type 1} → statement M
 put-counter-spec =

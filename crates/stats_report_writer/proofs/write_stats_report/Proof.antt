@@ -30,7 +30,8 @@ abbrev μ-loop2 : tie.MeasureT-loop2
 μ-loop2 buffer out₀ report count n i answer at₀ k₀ out at k = report .count - k
 
 asked : (c : tie.After-write-answer4 Inv-loop μ-loop Inv-loop2 μ-loop2)
-    → Asked writer (c .before .before .before .before .before .before .before .args .t1 .counters) (c .before .before .before .before .before .before .before .args .t1 .count) (now (c .before .before .before .before .before .before .before .args .buffer)) (writable (c .before .before .before .before .before .before .before .args .t1) (length (now (c .before .before .before .before .before .before .before .args .buffer)))) (be 4 (c .before .before .before .before .before .before .before .args .t1 .«stats_count»)) (bytesOf (c .before .before .before .before .before .before .before .args .t1) (now (c .before .before .before .before .before .before .before .args .buffer))) (now (c .before .before .before .before .before .before .before .args .out)) (c .before .before .loop .length) (c .write-answer4 .result)
+    → (let a = c .before .before .before .before .before .before .before .args in
+    Asked writer (a .t1 .counters) (a .t1 .count) (now (a .buffer)) (writable (a .t1) (length (now (a .buffer)))) (be 4 (a .t1 .«stats_count»)) (bytesOf (a .t1) (now (a .buffer))) (now (a .out)) (c .before .before .loop .length) (c .write-answer4 .result))
 unfolding be
 asked c = measured-asks (c .before .before .loop .inv) (c .before .loop-test .left) refl (λ o. refl) (c .write-answer4 .ensures)
 

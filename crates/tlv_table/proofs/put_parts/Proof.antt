@@ -31,8 +31,9 @@ same-length c = search needs
 
 returns : tie.Need-returns
 returns c =
+    let a = c .before .before .before .before .before .before .before .before .before .before .before .before .before .before .args in
     let h = room (c .before .before .before .before .before .before .before .before .before .before .before .before .before .before) in
-    put-three (c .before .before .before .before .before .before .before .before .before .before .before .before .before .before .args .tlv .kind) (c .before .before .before .before .before .before .before .before .before .before .before .before .before .before .args .tlv .size) (valueBytes (now (c .before .before .before .before .before .before .before .before .before .before .before .before .before .before .args .buffer)) (c .before .before .before .before .before .before .before .before .before .before .before .before .before .before .args .tlv .value)) (now (c .before .before .before .before .before .before .before .before .before .before .before .before .before .before .args .out)) _ _ _ (c .before .before .before .before .before .before .before .before .before .before .before .before .before .before .args .at) (omega arith) (c .before .before .before .before .before .before .before .before .before .before .put-u16 .ensures) (c .before .before .before .before .before .before .put-u162 .ensures) (c .before .before .put-value .ensures)
+    put-three (a .tlv .kind) (a .tlv .size) (valueBytes (now (a .buffer)) (a .tlv .value)) (now (a .out)) _ _ _ (a .at) (omega arith) (c .before .before .before .before .before .before .before .before .before .before .put-u16 .ensures) (c .before .before .before .before .before .before .put-u162 .ensures) (c .before .before .put-value .ensures)
 
 pub put-parts-spec : {M : Type 1} → statement M
 put-parts-spec =

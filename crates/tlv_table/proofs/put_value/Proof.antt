@@ -25,13 +25,17 @@ same-length : tie.Need-same-length
 same-length c = search needs
 
 returns : tie.Need-returns
-returns c = c .before .before .put-bytes .ensures ∙ ap (putAt (now (c .before .before .before .before .before .before .before .before .before .before .args .out)) (c .before .before .before .before .before .before .before .before .before .before .args .at)) (c .before .before .before .part .ensures ∙ sym (ap (valueBytes (now (c .before .before .before .before .before .before .before .before .before .before .args .buffer))) (c .before .before .before .before .before .before .value .given .1)))
+returns c =
+    let a = c .before .before .before .before .before .before .before .before .before .before .args in
+    c .before .before .put-bytes .ensures ∙ ap (putAt (now (a .out)) (a .at)) (c .before .before .before .part .ensures ∙ sym (ap (valueBytes (now (a .buffer))) (c .before .before .before .before .before .before .value .given .1)))
 
 same-length-2 : tie.Need-same-length-2
 same-length-2 c = search needs
 
 returns-2 : tie.Need-returns-2
-returns-2 c = c .before .before .put-u16 .ensures ∙ ap (putAt (now (c .before .before .before .before .before .before .before .before .before .args .out)) (c .before .before .before .before .before .before .before .before .before .args .at)) (sym (ap (valueBytes (now (c .before .before .before .before .before .before .before .before .before .args .buffer))) (c .before .before .before .before .before .value2 .given .1)))
+returns-2 c =
+    let a = c .before .before .before .before .before .before .before .before .before .args in
+    c .before .before .put-u16 .ensures ∙ ap (putAt (now (a .out)) (a .at)) (sym (ap (valueBytes (now (a .buffer))) (c .before .before .before .before .before .value2 .given .1)))
 
 pub put-value-spec : {M : Type 1} → statement M
 put-value-spec =

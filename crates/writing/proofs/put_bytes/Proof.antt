@@ -45,15 +45,18 @@ loop-less : tie.Need-loop-less Inv-loop μ-loop
 loop-less c = search needs
 
 loop-again : tie.Need-loop-again Inv-loop μ-loop
-loop-again c = (omega arith, (omega arith, rw (c .before .before .loop .inv .1 .1) (sets-more (now (c .before .before .before .before .before .before .before .before .args .out)) (now (c .before .before .before .before .before .before .before .before .args .bytes)) (c .before .before .before .before .before .before .before .before .args .at) (c .before .before .loop .i) (omega arith))))
+loop-again c =
+    let a = c .before .before .before .before .before .before .before .before .args in
+    (omega arith, (omega arith, rw (c .before .before .loop .inv .1 .1) (sets-more (now (a .out)) (now (a .bytes)) (a .at) (c .before .before .loop .i) (omega arith))))
 
 same-length-2 : tie.Need-same-length-2 Inv-loop μ-loop
 same-length-2 c = ap length (c .before .loop .inv .1 .1) ∙ simp length-sets
 
 returns-2 : tie.Need-returns-2 Inv-loop μ-loop
 returns-2 c =
-    let e : c .before .loop .i ≡ length (now (c .before .before .before .before .before .before .before .args .bytes)) = omega arith in
-    c .before .loop .inv .1 .1 ∙ rw (e, take-length (now (c .before .before .before .before .before .before .before .args .bytes))) (sym (put-fits (now (c .before .before .before .before .before .before .before .args .out)) (c .before .before .before .before .before .before .before .args .at) (now (c .before .before .before .before .before .before .before .args .bytes)) (c .before .loop .inv .1 .0)))
+    let a = c .before .before .before .before .before .before .before .args in
+    let e : c .before .loop .i ≡ length (now (a .bytes)) = omega arith in
+    c .before .loop .inv .1 .1 ∙ rw (e, take-length (now (a .bytes))) (sym (put-fits (now (a .out)) (a .at) (now (a .bytes)) (c .before .loop .inv .1 .0)))
 
 pub put-bytes-spec : {M : Type 1} → statement M
 put-bytes-spec =
