@@ -56,8 +56,7 @@ pub round-trip : (h : BmpCommonHeader) (out out′ : List ℕ) (a : WriteAnswer)
     → (a ≡ Written (length (bytesOf h))) × ReadsBack h (take (lengthOf a) out′)
 round-trip h out out′ a wrote w room =
     let n = length-join (readingOf h) in
-    let f = front wrote w (omega arith) room in
-    (f .answer-is, subst (ReadsBack h) (sym (f .bytes-are)) (reads-back h w))
+    front (ReadsBack h) wrote w (omega arith) room (reads-back h w)
 
 -- A header whose bytes are read back as itself is writable.
 pub only-writable : (h : BmpCommonHeader) → ReadsBack h (bytesOf h) → writable h ≡ true

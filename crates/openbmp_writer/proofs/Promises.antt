@@ -43,8 +43,7 @@ module _ (h : OpenBmpHeader) (b : List ℕ) (t : Typed h) (p : Bytes b) where
       → writable h (length b) ≡ true → length (bytesOf h b) ≤ length out
       → (a ≡ Written (length (bytesOf h b))) × ReadsBack h b (take (lengthOf a) out′)
   round-trip out out′ a wrote w room =
-      let f = front wrote w (short-enough h b t p w) room in
-      (f .answer-is, subst (ReadsBack h b) (sym (f .bytes-are)) (reads-back w))
+      front (ReadsBack h b) wrote w (short-enough h b t p w) room (reads-back w)
 
   -- A header whose views lie inside the buffer, and whose bytes are read back as itself, is writable.
   pub only-writable : h .«admin_id» .place + h .«admin_id» .length ≤ length b → h .«router_group» .place + h .«router_group» .length ≤ length b

@@ -37,8 +37,7 @@ pub round-trip : (m : PeerDownNotification) (b out out′ : List ℕ) (a : Write
     → writable m (length b) ≡ true → length (bytesOf m b) ≤ Number.limit → length (bytesOf m b) ≤ length out
     → (a ≡ Written (length (bytesOf m b))) × ReadsBack m b (take (lengthOf a) out′)
 round-trip m b out out′ a p wrote w short room =
-    let f = front wrote w short room in
-    (f .answer-is, subst (ReadsBack m b) (sym (f .bytes-are)) (reads-back m b p w short))
+    front (ReadsBack m b) wrote w short room (reads-back m b p w short)
 
 -- A notification whose view lies inside the buffer, and whose bytes are read back as itself, is writable.
 pub only-writable : (m : PeerDownNotification) (b : List ℕ) → Bytes b → viewOf (m .«data») .place + viewOf (m .«data») .length ≤ length b

@@ -1,5 +1,5 @@
 -- What a user of the writer of the Peer Up body relies on. Assumes nothing.
-use mathlib.Core.Path.{_≡_, sym, _∙_, subst}
+use mathlib.Core.Path.{_≡_, _∙_}
 use mathlib.Core.Bool.{true}
 use mathlib.Core.List.{List}
 use Prim.Native.Nat.{ℕ, _≤_}
@@ -29,12 +29,11 @@ pub round-trip : (peer : BmpPeerType) (m : PeerUpNotification) (b out out′ : L
     → (a ≡ Written (length (bytesOf m b))) × ReadsBack peer m b (take (lengthOf a) out′)
 round-trip peer m b out out′ a p t wrote w short room =
     let afi = m .«local_addr» .afi in
-    let f = front wrote w short room in
     let x = writes-of m b w in
     let g = good-of m b p t x in
     let n = length-parts writer b (kept m) ∙ length-take (m .count) (m .tlvs) in
     let shown-so = complete afi peer (readingOf m b) g (omega (arith, n, x .table .few)) short in
-    (f .answer-is, subst (ReadsBack peer m b) (sym (f .bytes-are)) (reads-back peer m b p t x shown-so (views afi peer (readingOf m b) g)))
+    front (ReadsBack peer m b) wrote w short room (reads-back peer m b p t x shown-so (views afi peer (readingOf m b) g))
 
 -- A record whose views lie inside the buffer, and whose bytes are read back as itself, is writable.
 pub only-writable : (peer : BmpPeerType) (m : PeerUpNotification) (b : List ℕ) → Bytes b → Typed m → Inside m b

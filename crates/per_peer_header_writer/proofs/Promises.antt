@@ -1,7 +1,7 @@
 -- What a user of the writer of the per-peer header relies on. Assumes nothing.
 use Prim.Native.Nat.{ℕ, _≤_}
 use mathlib.Core.Bool.{true}
-use mathlib.Core.Path.{_≡_, sym, ap, _∙_, subst}
+use mathlib.Core.Path.{_≡_, sym, ap, _∙_}
 use mathlib.Core.List.{List}
 use native.Mathlib.Omega.{arith}
 use lib.ListN.{length, take}
@@ -36,7 +36,6 @@ pub round-trip : (h : BmpPerPeerHeader) → Typed h → (out out′ : List ℕ) 
     → (a ≡ Written (length (bytesOf h))) × ReadsBack h (take (lengthOf a) out′)
 round-trip h t out out′ a wrote w room =
     let n = length-join (readingOf h) (good-reading h t) in
-    let f = front wrote w (omega arith) room in
     let r = reads h t in
     let back : ReadsBack h (bytesOf h) =
     record {
@@ -44,7 +43,7 @@ round-trip h t out out′ a wrote w room =
       whole = ap (λ (x : PerPeerHeaderAnswer). x .stop) r ∙ sym n;
       same = ap (λ (x : PerPeerHeaderAnswer). x .header) r ∙ shown-again h t w;
     } in
-    (f .answer-is, subst (ReadsBack h) (sym (f .bytes-are)) back)
+    front (ReadsBack h) wrote w (omega arith) room back
 
 -- A header whose bytes are read back as itself is writable.
 pub only-writable : (h : BmpPerPeerHeader) → Typed h → ReadsBack h (bytesOf h) → writable h ≡ true

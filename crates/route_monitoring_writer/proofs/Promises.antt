@@ -54,8 +54,7 @@ pub round-trip : (m : RouteMonitoring) (b out out′ : List ℕ) (a : WriteAnswe
     → writable m (length b) ≡ true → length (bytesOf m b) ≤ Number.limit → length (bytesOf m b) ≤ length out
     → (width : AsnLength) (t : BmpPeerType) → (a ≡ Written (length (bytesOf m b))) × ReadsBack width t m b (take (lengthOf a) out′)
 round-trip m b out out′ a wrote w short room width t =
-    let f = front wrote w short room in
-    (f .answer-is, subst (ReadsBack width t m b) (sym (f .bytes-are)) (reads-back width t m b w short))
+    front (ReadsBack width t m b) wrote w short room (reads-back width t m b w short)
 
 -- A message whose view lies inside the buffer, and whose bytes are read back as itself, is writable.
 pub only-writable : (width : AsnLength) (t : BmpPeerType) (m : RouteMonitoring) (b : List ℕ)

@@ -1,5 +1,5 @@
 -- What a user of the writer of the Statistics body relies on. Assumes nothing.
-use mathlib.Core.Path.{_≡_, sym, subst}
+use mathlib.Core.Path.{_≡_}
 use mathlib.Core.Bool.{true}
 use mathlib.Core.List.{List}
 use Prim.Native.Nat.{ℕ, _≤_, _<_}
@@ -26,11 +26,10 @@ pub round-trip : (m : StatsReport) (b out out′ : List ℕ) (a : WriteAnswer) �
     → writable m (length b) ≡ true → length (bytesOf m b) ≤ Number.limit → length (bytesOf m b) ≤ length out
     → (a ≡ Written (length (bytesOf m b))) × ReadsBack m b (take (lengthOf a) out′)
 round-trip m b out out′ a p long wrote w short room =
-    let f = front wrote w short room in
     let x = writes-of m (length b) w in
     let g = good-of m b p long x in
     let a = complete (readingOf m b) g (omega (arith, parts-count m b long (x .few), x .few)) short in
-    (f .answer-is, subst (ReadsBack m b) (sym (f .bytes-are)) (reads-back m b long x a (views (readingOf m b) g)))
+    front (ReadsBack m b) wrote w short room (reads-back m b long x a (views (readingOf m b) g))
 
 -- A record whose views lie inside the buffer, and whose bytes are read back as itself, is writable.
 pub only-writable : (m : StatsReport) (b : List ℕ) → Bytes b → length (m .counters) ≡ places

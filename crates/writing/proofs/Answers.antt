@@ -1,5 +1,5 @@
 -- What a writer's answer tells, the same for every writer. Assumes nothing.
-use mathlib.Core.Path.{_≡_, refl, sym, ap, _∙_}
+use mathlib.Core.Path.{_≡_, refl, sym, ap, _∙_, subst}
 use mathlib.Core.Bool.{Bool, true, false}
 use mathlib.Core.List.{List, _++_}
 use Prim.Native.Nat.{ℕ, _≤_}
@@ -65,21 +65,15 @@ module _ (ok : Bool) (s out : List ℕ) (n : ℕ) (long : ok ≡ true → length
           left = p ∙ sets-eq s out 0 (rw zero-add (wrote .fits)) ∙ rw zero-add (ap (λ (x : WriteAnswer). after x s out) (sym e ∙ answered));
         }
 
--- ---- what stands in front of the output of a writer that had room
-pub record Front (s out′ : List ℕ) (r : WriteAnswer) : Type 0 where
-  pub answer-is : r ≡ Written (length s)
-  pub bytes-are : take (lengthOf r) out′ ≡ s
-
-pub front : {ok : Bool} {s out out′ : List ℕ} {r : WriteAnswer} → Wrote ok s out r out′
-    → ok ≡ true → length s ≤ Number.limit → length s ≤ length out → Front s out′ r
-front {ok} {s} {out} {out′} {r} wrote w short fits =
+-- ---- a writer that had room put its bytes in front of the output, so what holds of them holds of what stands there
+pub front : (P : List ℕ → Type 0) {ok : Bool} {s out out′ : List ℕ} {r : WriteAnswer} → Wrote ok s out r out′
+    → ok ≡ true → length s ≤ Number.limit → length s ≤ length out → P s → (r ≡ Written (length s)) × P (take (lengthOf r) out′)
+front P {ok} {s} {out} {out′} {r} wrote w short fits holds =
     let a : writeAnswer ok (length s) (length out) ≡ Written (length s) = does-write ok (length s) (length out) w short fits in
     let e : r ≡ Written (length s) = wrote .answered ∙ a in
     let o : out′ ≡ s ++ drop (length s) out = wrote .left ∙ ap (λ (x : WriteAnswer). after x s out) a in
-    record {
-      answer-is = e;
-      bytes-are = rw (e, o) (take-at s (drop (length s) out) (length s) refl);
-    }
+    let there : take (lengthOf r) out′ ≡ s = rw (e, o) (take-at s (drop (length s) out) (length s) refl) in
+    (e, subst P (sym there) holds)
 
 -- ---- a writer whose record is not ok
 pub refused-so : {ok : Bool} {s out : List ℕ} {a : WriteAnswer} → ok ≡ false → a ≡ writeAnswer false 0 (length out) → Wrote ok s out a out
