@@ -1,24 +1,24 @@
 -- No record is refused that would be read back as itself, where its views lie inside the buffer. Assumes nothing.
-use mathlib.Core.Path.{_≡_, refl, sym, _∙_, subst}
+use mathlib.Core.Path.{_≡_, sym, _∙_, subst}
 use mathlib.Core.Bool.{true}
 use mathlib.Core.List.{List, [], _∷_}
-use Prim.Native.Nat.{ℕ, suc, _+_, _-_, _≤_, _<_}
+use Prim.Native.Nat.{ℕ, _+_, _-_, _≤_, _<_}
 use native.Mathlib.Omega.{arith}
 use borrow.Author.Tests.{le-ltb}
 use lib.ListN.{length, getD, replicate, length-append}
 use Rattle.wire.specs.Bytes.{be}
-use Rattle.wire.specs.Parts.{EachGood, AllAt}
-use Rattle.wire.specs.Tlv.{Tlv, putTlv, sizeOf, putTail}
+use Rattle.wire.specs.Parts.{AllAt}
+use Rattle.wire.specs.Tlv.{Tlv, sizeOf, putTail}
 use Rattle.wire.specs.Exactly.{Shows}
 use Rattle.wire.proofs.Tlv.{put-tlv-long}
 use Rattle.initiation_message.specs.Read.{reader}
-use Rattle.writing.specs.Table.{parts, joined, allOk}
-use Rattle.writing.proofs.Table.{kept-each}
-use Rattle.writing.proofs.Trip.{table-good}
+use Rattle.writing.specs.Table.{joined}
+use Rattle.writing.proofs.Trip.{table-good, table-fine}
 use Rattle.tlv_table.proofs.Written.{good-part, before-from}
+use Rattle.tlv_table.specs.Tlvs.{entryWritableBefore}
 use Rattle.initiation_message.specs.Grammar.{Reading, join, ReadTlv, places}
 use Rattle.initiation_message.specs.Shown.{infoOf, zeroTlv, entry}
-use Rattle.initiation_message_writer.specs.Write.{valueOf, partOf, writer, kept, bytesOf, writable, entryOf, SameTlv, Same}
+use Rattle.initiation_message_writer.specs.Write.{valueOf, partOf, writer, bytesOf, writable, entryOf, SameTlv, Same}
 use Rattle.initiation_message.specs.declared.InitiationTlv.{InitiationTlv}
 use Rattle.initiation_message.specs.declared.InitiationMessage.{InitiationMessage}
 use Rattle.initiation_message.specs.declared.InitiationAnswer.{InitiationAnswer}
@@ -28,21 +28,16 @@ use Rattle.initiation_message_writer.proofs.Trip.{ReadsBack}
 abbrev pub Inside : List ℕ → InitiationTlv → Type 0
 Inside b t = t .place + t .«info_len» ≤ length b
 
--- entries whose items are good are writable
+-- an entry whose item is good is writable
 followed : (b : List ℕ) (t : InitiationTlv) (l : List InitiationTlv) → ReadTlv (partOf b t) (joined writer b l) → 0 < t .«info_len» + length l
 unfolding be
 followed b t [] g = omega (arith, g .more-than-four, g .well-formed .size-is, length-append (valueOf b t) [])
 followed b t (u ∷ l) g = omega arith
 
-all-fine : (b : List ℕ) (l : List InitiationTlv) → EachGood putTlv ReadTlv (parts writer b l) []
-    → ((i : ℕ) → i < length l → Inside b (getD l i zeroTlv)) → allOk writer (length b) l ≡ true
-all-fine b [] g h = refl
-all-fine b (t ∷ l) g h =
-    rw (before-from (length b) (length l) (entryOf t) (record {
-      alone = good-part _ _ (infoOf t) b (g .0 .well-formed) (h 0 (omega arith));
-      not-last-empty = followed b t l (g .0);
-    }))
-    (all-fine b l (g .1) (λ i e. h (suc i) (omega arith)))
+fine-entry : (b : List ℕ) (t : InitiationTlv) (l : List InitiationTlv) → ReadTlv (partOf b t) (joined writer b l) → Inside b t
+    → entryWritableBefore (length b) (length l) (entryOf t) ≡ true
+fine-entry b t l g h =
+    before-from (length b) (length l) (entryOf t) (record { alone = good-part _ _ (infoOf t) b (g .well-formed) h; not-last-empty = followed b t l g })
 
 -- an item that is shown as an entry is that entry's
 one-part : (b s : List ℕ) (at : ℕ) (x : Tlv) (t : InitiationTlv) → ViewAt s at x → SameTlv t b (entry at x) s → x ≡ partOf b t
@@ -64,4 +59,4 @@ writable-from m b long inside q x view-so r =
     table-good writer sizeOf entry (ViewAt s) b (λ t u. SameTlv t b u s) zeroTlv (one-part b s)
     (replicate (places - length (q .tlvs)) zeroTlv) (m .tlvs) (m .count) 0 (q .tlvs) (omega (arith, long, few)) (same .count-same) v (same .tlv-same)
     (λ t. 4 + length (t .value)) put-tlv-long ReadTlv (putTail (q .tail)) (x .reading .joined) (x .reading .is-good .each) in
-    rw (le-ltb places (m .count) few) (all-fine b (kept m) good (kept-each (λ i. Inside b) (m .tlvs) (m .count) zeroTlv inside))
+    rw (le-ltb places (m .count) few) (table-fine writer ReadTlv (Inside b) zeroTlv b [] (fine-entry b) (m .tlvs) (m .count) good inside)

@@ -14,7 +14,7 @@ use Rattle.wire.specs.Walk.{fault, walk}
 use Rattle.decimal.specs.Decimal.{decimal}
 use Rattle.decimal.proofs.Promises.{at-most}
 use Rattle.listing.specs.Text.{heading, messageLine, refusedLine, endLine}
-use Rattle.listing.specs.Listing.{longest, Message, kit, lines, text, enough}
+use Rattle.listing.specs.Listing.{longest, kit, lines, text, enough}
 use Rattle.listing.specs.Steps.{linesFrom, rowAt}
 use Rattle.listing.specs.declared.Row.{Row}
 use Rattle.listing.proofs.Rows.{Tells, row-tells, byRow, by-row}

@@ -1,8 +1,8 @@
 -- No record is refused that would be read back as itself, where its views lie inside the buffer. Assumes nothing.
-use mathlib.Core.Path.{_≡_, refl, sym, ap, _∙_, subst}
+use mathlib.Core.Path.{_≡_, sym, ap, _∙_, subst}
 use mathlib.Core.Bool.{true, _&&_, and-eq-true-iff}
-use mathlib.Core.List.{List, [], _∷_}
-use Prim.Native.Nat.{ℕ, suc, _+_, _-_, _≤_, _<_}
+use mathlib.Core.List.{List}
+use Prim.Native.Nat.{ℕ, _+_, _-_, _≤_, _<_}
 use native.Mathlib.Omega.{arith}
 use borrow.Author.Tests.{le-ltb}
 use lib.ListN.{length, drop, getD, replicate, length-replicate}
@@ -15,10 +15,9 @@ use Rattle.wire.specs.declared.View.{View}
 use Rattle.wire.proofs.Bytes.{bytes-append, bytes-be, bytes-take, bytes-drop, num-lt}
 use Rattle.wire.proofs.Views.{bytes-viewed, octets-zeros}
 use Rattle.wire.specs.Exactly.{Shows}
-use Rattle.writing.specs.Table.{parts, allOk}
-use Rattle.writing.proofs.Table.{kept-each}
+use Rattle.writing.specs.Table.{parts}
 use Rattle.writing.proofs.Tlv.{view-long}
-use Rattle.writing.proofs.Trip.{table-back}
+use Rattle.writing.proofs.Trip.{table-back, table-fine}
 use Rattle.tlv_table.proofs.Table.{all-bytes}
 use Rattle.tlv_table.proofs.Written.{good-part}
 use Rattle.addresses.specs.Address.{shownIp}
@@ -59,14 +58,6 @@ fine-open {b} p v inside o =
       size-fits = omega (arith, n, small, o .size-is);
       size-is = o .size-is ∙ n;
     })
-
--- entries whose items are good are writable, whatever follows them
-all-fine : (b : List ℕ) (l : List PeerUpNotificationTlv) (z : List ℕ) → EachGood putTlv ReadTlv (parts writer b l) z
-    → ((i : ℕ) → i < length l → Within b (infoOf (getD l i zeroTlv))) → allOk writer (length b) l ≡ true
-all-fine b [] z g h = refl
-all-fine b (t ∷ l) z g h =
-    rw (good-part _ _ (infoOf t) b (g .0) (h 0 (omega arith)))
-    (all-fine b l z (g .1) (λ i e. h (suc i) (omega arith)))
 
 -- an item that is shown as an entry is that entry's
 one-part : (b s : List ℕ) (at : ℕ) (x : Tlv) (t : PeerUpNotificationTlv) → ViewAt s at x → SameTlv t b (entry at x) s → x ≡ partOf b t
@@ -120,9 +111,9 @@ module _ (peer : BmpPeerType) (m : PeerUpNotification) (b : List ℕ) (p : Bytes
       let each : q .tlvs ≡ parts writer b (kept m) =
       table-back writer sizeOf entry (ViewAt s) b (λ t u. SameTlv t b u s) zeroTlv (one-part b s)
       (replicate (places - length (q .tlvs)) zeroTlv) (m .tlvs) (m .count) (tlvsAt q) (q .tlvs) (omega (arith, t .table-long, few)) n (v .tlvs-shown) (same .tlv-same) in
-      rw (le-ltb places (m .count) few) (all-fine b (kept m) (q .tail)
-      (subst (λ (l : List Tlv). EachGood putTlv ReadTlv l (q .tail)) each (x .reading .is-good .each))
-      (kept-each (λ i t. Within b (infoOf t)) (m .tlvs) (m .count) zeroTlv (inside .tlvs-inside)))
+      rw (le-ltb places (m .count) few)
+      (table-fine writer ReadTlv (λ t. Within b (infoOf t)) zeroTlv b (q .tail) (λ t l g h. good-part _ _ (infoOf t) b g h) (m .tlvs) (m .count)
+      (subst (λ (l : List Tlv). EachGood putTlv ReadTlv l (q .tail)) each (x .reading .is-good .each)) (inside .tlvs-inside))
 
   all-fits : writable m b ≡ true
   all-fits =

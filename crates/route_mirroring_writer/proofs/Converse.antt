@@ -1,6 +1,6 @@
 -- No record is refused that would be read back as itself, where its views lie inside the buffer and its information has length 2.
 -- Assumes nothing.
-use mathlib.Core.Path.{_≡_, refl, sym, _∙_, subst}
+use mathlib.Core.Path.{_≡_, sym, _∙_, subst}
 use mathlib.Core.Bool.{true}
 use mathlib.Core.List.{List, [], _∷_, _++_}
 use Prim.Native.Nat.{ℕ, zero, suc, _+_, _-_, _≤_, _<_}
@@ -10,19 +10,17 @@ use lib.ListN.{length, getD, replicate}
 use Rattle.wire.specs.Parts.{EachGood, AllAt, shownFrom}
 use Rattle.wire.specs.Exactly.{Shows}
 use Rattle.route_mirroring.specs.Read.{reader}
-use Rattle.writing.specs.Table.{parts, joined, allOk}
-use Rattle.writing.proofs.Table.{kept-each}
-use Rattle.writing.proofs.Trip.{table-good}
+use Rattle.writing.proofs.Trip.{table-good, table-fine}
 use Rattle.tlv_table.proofs.Written.{good-part}
 use Rattle.route_mirroring.specs.Grammar.{Tlv, bgpMessage, information, put, Reading, join, ReadTlv, places, sizeOf}
 use Rattle.route_mirroring.specs.Shown.{valueOf, zeroTlv, entry}
-use Rattle.route_mirroring_writer.specs.Write.{valuePart, partOf, writer, kept, bytesOf, writable, SameTlv, Same}
+use Rattle.route_mirroring_writer.specs.Write.{valuePart, partOf, writer, bytesOf, writable, SameTlv, Same}
 use Rattle.route_mirroring.specs.declared.RouteMirroringValue.{RouteMirroringValue}
 use Rattle.route_mirroring.specs.declared.RouteMirroringValue.the-variants.{BgpMessage, Information}
 use Rattle.route_mirroring.specs.declared.RouteMirroringTlv.{RouteMirroringTlv}
 use Rattle.route_mirroring.specs.declared.RouteMirroring.{RouteMirroring}
 use Rattle.route_mirroring.specs.declared.RouteMirroringAnswer.{RouteMirroringAnswer}
-use Rattle.route_mirroring_writer.proofs.Written.{Known, FineValue, fine-from, longOf, put-long}
+use Rattle.route_mirroring_writer.proofs.Written.{Known, FineValue, Fine, fine-from, longOf, put-long}
 use Rattle.route_mirroring.proofs.Shows.{ViewAt}
 use Rattle.route_mirroring_writer.proofs.Trip.{ReadsBack}
 
@@ -59,29 +57,21 @@ same-known t b u s e h =
       code-known = λ z. omega (arith, e .code-same z, h .code-known (omega (arith, e .kind-same, z)));
     }
 
--- entries whose items are good are writable
+-- an entry whose item is good is writable
 fine-value : (b : List ℕ) (size : ℕ) (x : RouteMirroringValue) (r : List ℕ) → ReadTlv (valuePart b size x) r → InsideValue b x → LengthTwo size x
     → FineValue (length b) size x
 fine-value b size (BgpMessage v) r g inside two =
     record { fits = good-part 0 size v b (g .well-formed) inside; has-header = g .has-header }
 fine-value b size (Information i) r g inside two = two
 
--- what all-fine asks of an entry beside its item
+-- what the writer asks of an entry beside its item
 pub record Asked (b : List ℕ) (t : RouteMirroringTlv) : Type 0 where
   pub inside : Inside b t
   pub two : TwoBytes t
   pub is-known : Known (t .kind) (t .number)
 
-all-fine : (b : List ℕ) (l : List RouteMirroringTlv) → EachGood put ReadTlv (parts writer b l) []
-    → ((i : ℕ) → i < length l → Asked b (getD l i zeroTlv)) → allOk writer (length b) l ≡ true
-all-fine b [] g asked = refl
-all-fine b (t ∷ l) g asked =
-    let a = asked 0 (omega arith) in
-    rw (fine-from (length b) t (record {
-      is-known = a .is-known;
-      fine-value = fine-value b (t .«info_len») (valueOf t) (joined writer b l) (g .0) (a .inside) (a .two);
-    }))
-    (all-fine b l (g .1) (λ i e. asked (suc i) (omega arith)))
+fine-entry : (b : List ℕ) (t : RouteMirroringTlv) (r : List ℕ) → ReadTlv (partOf b t) r → Asked b t → Fine (length b) t
+fine-entry b t r g a = record { is-known = a .is-known; fine-value = fine-value b (t .«info_len») (valueOf t) r g (a .inside) (a .two) }
 
 -- an item that is shown as an entry is that entry's
 one-part : (b s : List ℕ) (at : ℕ) (x : Tlv) (kind size number : ℕ) → ViewAt s at x
@@ -118,4 +108,5 @@ writable-from m b long inside two q x view-so r =
       is-known = same-known (getD (m .tlvs) i zeroTlv) b (getD (shownFrom sizeOf entry 0 (q .tlvs) ++ rest) i zeroTlv) s (same .tlv-same i h)
           (each-known (q .tlvs) (q .tail) rest 0 i (x .reading .is-good .each) (omega (arith, h, same .count-same)));
     } in
-    rw (le-ltb places (m .count) few) (all-fine b (kept m) good (kept-each (λ i t. Asked b t) (m .tlvs) (m .count) zeroTlv asked))
+    rw (le-ltb places (m .count) few)
+    (table-fine writer ReadTlv (Asked b) zeroTlv b [] (λ t l g a. fine-from (length b) t (fine-entry b t _ g a)) (m .tlvs) (m .count) good asked)

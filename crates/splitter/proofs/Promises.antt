@@ -18,8 +18,8 @@ use Rattle.common_header.specs.Read.{readCommonHeader}
 use Rattle.common_header.specs.declared.CommonHeaderAnswer.{CommonHeaderAnswer}
 use Rattle.common_header.proofs.Laws.{length-join}
 use Rattle.common_header.proofs.Promises as HeaderPromises
-use Rattle.splitter.specs.Grammar.{headerOf, join, Good, grammar}
-use Rattle.splitter.specs.Shown.{shown, refusalOf, messageOf, commonHeaderOf}
+use Rattle.splitter.specs.Grammar.{headerOf, join, grammar}
+use Rattle.splitter.specs.Shown.{refusalOf, messageOf, commonHeaderOf}
 use Rattle.splitter.specs.Read.{afterHeader, splitOf, reader}
 use Rattle.splitter.specs.declared.SplitAnswer.{SplitAnswer}
 use Rattle.splitter.proofs.Laws.{Fitting, fitting-shown, judged-good, header-accepted, cut-at, header-cut, cut-header}

@@ -1,5 +1,5 @@
 -- No record is refused that would be read back as itself, where its views lie inside the buffer. Assumes nothing.
-use mathlib.Core.Path.{_≡_, refl, sym, ap, _∙_, subst}
+use mathlib.Core.Path.{_≡_, sym, ap, _∙_, subst}
 use mathlib.Core.Bool.{true}
 use mathlib.Core.List.{List, [], _∷_, _++_}
 use Prim.Native.Nat.{ℕ, zero, suc, _+_, _-_, _≤_, _<_}
@@ -8,20 +8,19 @@ use borrow.Author.Tests.{le-ltb, eq-eqb}
 use lib.ListN.{length, getD, replicate}
 use lib.Seq.{length-take-le}
 use Rattle.wire.specs.Bytes.{Bytes}
-use Rattle.wire.specs.Parts.{EachGood, AllAt, shownFrom}
+use Rattle.wire.specs.Parts.{AllAt, shownFrom}
 use Rattle.wire.proofs.Bytes.{bytes-be, bytes-append}
 use Rattle.wire.proofs.Tlv.{put-tlv-long}
 use Rattle.wire.specs.Exactly.{Shows}
 use Rattle.stats_report.specs.Read.{reader}
-use Rattle.writing.specs.Table.{parts, joined, allOk}
 use Rattle.writing.proofs.Table.{kept-each, bytes-joined}
-use Rattle.writing.proofs.Trip.{table-good}
+use Rattle.writing.proofs.Trip.{table-good, all-fine}
 use Rattle.stats_data.specs.Grammar.{valueBytes}
 use Rattle.stats_data.specs.Shown.{afiOf, safiOf, numberOf, valueIn}
 use Rattle.stats_data_writer.proofs.Written.{fine-from, InsideData, data-bytes}
-use Rattle.stats_report.specs.Grammar.{Stat, asTlv, putStat, GoodStat, Reading, join, places, sizeOf}
+use Rattle.stats_report.specs.Grammar.{Stat, asTlv, GoodStat, Reading, join, places, sizeOf}
 use Rattle.stats_report.specs.Shown.{zeroCounter, entry, dataIn, shown}
-use Rattle.stats_report_writer.specs.Write.{partOf, plain, writer, kept, bytesOf, writable, SameCounter, Same}
+use Rattle.stats_report_writer.specs.Write.{partOf, plain, writer, kept, bytesOf, writable, SameCounter, Same, counterWritable}
 use Rattle.stats_report.specs.declared.StatCounter.{StatCounter}
 use Rattle.stats_report.specs.declared.StatsReport.{StatsReport}
 use Rattle.stats_report.specs.declared.StatsAnswer.{StatsAnswer}
@@ -33,16 +32,12 @@ use Rattle.stats_report.proofs.Laws.{behind}
 abbrev pub Inside : List ℕ → StatCounter → Type 0
 Inside b t = InsideData b (dataIn t)
 
--- entries whose numbers are plain and whose items are good are writable
-all-fine : (b : List ℕ) (l : List StatCounter) → EachGood putStat GoodStat (parts writer b l) []
-    → ((i : ℕ) → i < length l → Inside b (getD l i zeroCounter)) → ((i : ℕ) → i < length l → plain (getD l i zeroCounter) ≡ true)
-    → allOk writer (length b) l ≡ true
-all-fine b [] g h p = refl
-all-fine b (t ∷ l) g h p =
-    let w = g .0 .well-formed in
-    let f = fine-from b (t .kind) (t .«stat_len») (dataIn t)
-    (record { kind-fits = w .kind-fits; size-fits = w .size-fits; size-is = w .size-is; value-good = g .0 .value-good }) (h 0 (omega arith)) in
-    rw (p 0 (omega arith), f) (all-fine b l (g .1) (λ i e. h (suc i) (omega arith)) (λ i e. p (suc i) (omega arith)))
+-- an entry whose numbers are plain and whose item is good is writable
+fine-entry : (b : List ℕ) (t : StatCounter) (r : List ℕ) → GoodStat (partOf b t) r → Inside b t × (plain t ≡ true) → counterWritable (length b) t ≡ true
+fine-entry b t r g h =
+    let w = g .well-formed in
+    rw (h .1) (fine-from b (t .kind) (t .«stat_len») (dataIn t)
+    (record { kind-fits = w .kind-fits; size-fits = w .size-fits; size-is = w .size-is; value-good = g .value-good }) (h .0))
 
 -- an item that is shown as an entry is that entry's
 value-of : (b s : List ℕ) (at : ℕ) (x : Stat) (t : StatCounter) → ViewAt s at x → SameCounter t b (entry at x) s → x .value ≡ valueIn b (dataIn t)
@@ -99,4 +94,5 @@ writable-from m b long inside q x view-so r =
     (λ t. 4 + length (valueBytes (t .value))) (λ t. put-tlv-long (asTlv t)) GoodStat (q .tail)
     (behind (q .count) (m .«stats_count») _ _ (x .reading .joined)) (x .reading .is-good .each) in
     rw (le-ltb places (m .count) few, eq-eqb (m .«stats_count») (m .count) count-is)
-    (all-fine b (kept m) good (kept-each (λ i. Inside b) (m .counters) (m .count) zeroCounter inside) (all-plain b s rest (kept m) (q .stats) 4 (k ∙ n) v same-kept))
+    (all-fine writer GoodStat (λ t. Inside b t × (plain t ≡ true)) zeroCounter b [] (λ t l g h. fine-entry b t _ g h) (kept m) good
+    (λ i h. (kept-each (λ i. Inside b) (m .counters) (m .count) zeroCounter inside i h, all-plain b s rest (kept m) (q .stats) 4 (k ∙ n) v same-kept i h)))

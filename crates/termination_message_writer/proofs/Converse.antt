@@ -9,18 +9,17 @@ use borrow.Author.Tests.{le-ltb, eqb-true, eqb-false}
 use lib.Dec.{eqb}
 use lib.ListN.{length, getD, replicate}
 use Rattle.wire.specs.View.{viewed}
-use Rattle.wire.specs.Parts.{shownFrom, EachGood, AllAt}
+use Rattle.wire.specs.Parts.{shownFrom, AllAt}
 use Rattle.wire.specs.Tlv.{putTail}
 use Rattle.wire.proofs.Tlv.{put-tlv-long}
 use Rattle.wire.specs.Exactly.{Shows}
 use Rattle.termination_message.specs.Read.{reader}
-use Rattle.writing.specs.Table.{parts, joined, allOk}
-use Rattle.writing.proofs.Table.{kept-each}
-use Rattle.writing.proofs.Trip.{table-good}
+use Rattle.writing.specs.Table.{joined}
+use Rattle.writing.proofs.Trip.{table-good, table-fine}
 use Rattle.tlv_table.proofs.Written.{good-part}
-use Rattle.termination_message.specs.Grammar.{Tlv, string, reason, put, sizeOf, ReadString, ReadTlv, Reading, join, places}
+use Rattle.termination_message.specs.Grammar.{Tlv, string, reason, sizeOf, ReadString, ReadTlv, Reading, join, places}
 use Rattle.termination_message.specs.Shown.{textOf, zeroTlv, entry}
-use Rattle.termination_message_writer.specs.Write.{partOf, writer, kept, bytesOf, writable, SameTlv, Same}
+use Rattle.termination_message_writer.specs.Write.{partOf, writer, bytesOf, writable, SameTlv, Same}
 use Rattle.termination_message.specs.declared.TerminationTlv.{TerminationTlv}
 use Rattle.termination_message.specs.declared.TerminationMessage.{TerminationMessage}
 use Rattle.termination_message.specs.declared.TerminationAnswer.{TerminationAnswer}
@@ -40,7 +39,7 @@ pub record Proper (b : List ℕ) (t : TerminationTlv) : Type 0 where
   pub two : ReasonTwo t
   pub known : t .kind ≤ 1
 
--- entries whose items are good are writable
+-- an entry whose item is good is writable
 followed : (b : List ℕ) (t : TerminationTlv) (l : List TerminationTlv) → ReadString (t .«info_len») (viewed b (textOf t)) (joined writer b l)
     → 0 < t .«info_len» + length l
 followed b t [] g =
@@ -61,12 +60,6 @@ fine-entry b t l g q = go (eqb (t .kind) 0) refl
         let h : ReadTlv (reason (t .«info_len») (t .number)) (joined writer b l) = subst (λ (x : Tlv). ReadTlv x (joined writer b l)) (part-code b t k) g in
         let some : 0 < t .kind = omega arith in
         a-code (omega (arith, q .known)) (q .two some) (h .code-known)
-
-all-fine : (b : List ℕ) (l : List TerminationTlv) → EachGood put ReadTlv (parts writer b l) []
-    → ((i : ℕ) → i < length l → Proper b (getD l i zeroTlv)) → allOk writer (length b) l ≡ true
-all-fine b [] g h = refl
-all-fine b (t ∷ l) g h =
-    rw (fine-from (length b) (length l) t (fine-entry b t l (g .0) (h 0 (omega arith)))) (all-fine b l (g .1) (λ i e. h (suc i) (omega arith)))
 
 -- an item that is shown as an entry is that entry's
 one-part : (b s : List ℕ) (at : ℕ) (x : Tlv) (t : TerminationTlv) → ValueAt s at x → SameTlv t b (entry at x) s → x ≡ partOf b t
@@ -101,5 +94,5 @@ writable-from m b full inside two q x values r =
     let known : (i : ℕ) → i < m .count → getD (m .tlvs) i zeroTlv .kind ≤ 1 =
     λ i h. omega (arith, same .tlv-same i h .kind-same, kind-known (q .tlvs) 0 i (replicate (places - length (q .tlvs)) zeroTlv) (omega (arith, same .count-same))) in
     rw (le-ltb places (m .count) few)
-    (all-fine b (kept m) good
-    (kept-each (λ i. Proper b) (m .tlvs) (m .count) zeroTlv (λ i h. record { inside = inside i h; two = two i h; known = known i h })))
+    (table-fine writer ReadTlv (Proper b) zeroTlv b [] (λ t l g q. fine-from (length b) (length l) t (fine-entry b t l g q)) (m .tlvs) (m .count) good
+    (λ i h. record { inside = inside i h; two = two i h; known = known i h }))

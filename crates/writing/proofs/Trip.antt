@@ -67,3 +67,14 @@ module _ (W : Writer) (size : W .Item → ℕ) (entry : ℕ → W .Item → W .E
     table-good long put-long G z j g =
         let none : z ≡ [] = no-tail (W .put) long put-long (parts W b (take n table)) z (ap (λ (k : List (W .Item)). joinAll (W .put) k z) (sym table-back) ∙ j) in
         subst (λ (k : List (W .Item)). EachGood (W .put) G k []) table-back (subst (EachGood (W .put) G l) none g)
+
+-- ---- entries are writable where each is whose item is good and of which Q holds
+module _ (W : Writer) (G : W .Item → List ℕ → Type 0) (Q : W .Entry → Type 0) (d : W .Entry) (b z : List ℕ)
+    (fine : (t : W .Entry) (l : List (W .Entry)) → G (W .part b t) (joinAll (W .put) (parts W b l) z) → Q t → W .ok (length b) (length l) t ≡ true) where
+  pub all-fine : (l : List (W .Entry)) → EachGood (W .put) G (parts W b l) z → ((i : ℕ) → i < length l → Q (getD l i d)) → allOk W (length b) l ≡ true
+  all-fine [] g h = refl
+  all-fine (t ∷ l) g h = rw (fine t l (g .0) (h 0 (omega arith))) (all-fine l (g .1) (λ i e. h (suc i) (omega arith)))
+
+  pub table-fine : (table : List (W .Entry)) (n : ℕ) → EachGood (W .put) G (parts W b (take n table)) z → ((i : ℕ) → i < n → Q (getD table i d))
+      → allOk W (length b) (take n table) ≡ true
+  table-fine table n g h = all-fine (take n table) g (kept-each (λ i. Q) table n d h)
