@@ -1,3 +1,4 @@
 pub mod Equality
 pub mod Warnings
+pub mod Unused
 pub mod Promises

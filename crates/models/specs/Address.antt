@@ -1,9 +1,9 @@
 -- Addresses: sixteen octets and a family, as the per-peer header carries them (RFC 7854, section 4.2).
-use Prim.Native.Nat.{ℕ}
+use Prim.Native.Nat.{ℕ, _<_}
 use mathlib.Core.Bool.{Bool, true, false, _&&_}
 use mathlib.Core.List.{List, [], _∷_}
 use lib.Dec.{eqb}
-use lib.ListN.{replicate}
+use lib.ListN.{length, getD, replicate}
 use Rattle.models.specs.declared.Afi.{Afi}
 use Rattle.models.specs.declared.Afi.the-variants.{Ipv4, Ipv6}
 use Rattle.models.specs.declared.IpAddr.{IpAddr}
@@ -28,3 +28,11 @@ sameAddress a b = sameAfi (a .afi) (b .afi) && sameOctets (a .octets) (b .octets
 -- 0.0.0.0
 abbrev pub unspecified : IpAddr
 unspecified = record { octets = replicate 16 0; afi = Ipv4 }
+
+-- What no writer writes: IPv4, and one of the octets that it does not use is not zero.
+abbrev pub OneNotZero : List ℕ → Type 0
+OneNotZero octets = (i : ℕ) × (i < length octets) × (0 < getD octets i 0)
+
+abbrev pub UnusedNotZero : Afi → List ℕ → Type 0
+UnusedNotZero Ipv4 unused = OneNotZero unused
+UnusedNotZero Ipv6 unused = ⊥

@@ -1,3 +1,4 @@
 pub mod Written
 pub mod Table
+pub mod Unwritable
 pub mod Promises
