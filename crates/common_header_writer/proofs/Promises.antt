@@ -1,7 +1,8 @@
 -- What a user of the writer of the common header relies on. Assumes nothing.
 use mathlib.Core.Path.{_≡_, sym, ap, _∙_, subst}
-use mathlib.Core.Bool.{true}
+use mathlib.Core.Bool.{true, false}
 use mathlib.Core.List.{List}
+use mathlib.Core.Logic.{_↔_}
 use Prim.Native.Nat.{ℕ, _≤_, _<_, _^_}
 use native.Mathlib.Omega.{arith}
 use borrow.Author.Tests.{lt-ltb, ltb-true, eqb-true, eq-eqb}
@@ -19,6 +20,8 @@ use Rattle.common_header.specs.Grammar.{Good}
 use Rattle.common_header.specs.Shown.{kindOf, shown, refusalOf, stopOf, headerOf}
 use Rattle.common_header.specs.Read.{readCommonHeader}
 use Rattle.common_header_writer.specs.Write.{readingOf, bytesOf, writable}
+use Rattle.common_header_writer.specs.Unwritable.{Unwritable}
+use Rattle.common_header_writer.proofs.Unwritable.{listed}
 use Rattle.common_header.specs.declared.BmpCommonHeader.{BmpCommonHeader}
 use Rattle.common_header.specs.declared.CommonHeaderAnswer.{CommonHeaderAnswer}
 use Rattle.common_header.proofs.Laws.{length-join}
@@ -69,6 +72,10 @@ only-writable h r =
     let v : h .version ≡ 3 = ap (λ (k : BmpCommonHeader). k .version) (sym e) ∙ x .1 .reading .is-good .version-is in
     let n : h .«msg_len» < 256 ^ 4 = subst (λ (k : BmpCommonHeader). k .«msg_len» < 256 ^ 4) e (x .1 .reading .is-good .length-fits) in
     rw (eq-eqb (h .version) 3 v) (lt-ltb (h .«msg_len») (256 ^ 4) n)
+
+-- A header whose length is a u32, as its type says, is not writable exactly where an item of the list holds of it.
+pub unwritable : (h : BmpCommonHeader) → h .«msg_len» < 256 ^ 4 → (writable h ≡ false) ↔ Unwritable h
+unwritable = listed
 
 -- ---- any two answers, and any two outputs, that the contract allows are equal
 pub write-determined : (h : BmpCommonHeader) (out : List ℕ) (a b : WriteAnswer) (o p : List ℕ)
