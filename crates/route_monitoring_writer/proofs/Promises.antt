@@ -1,7 +1,8 @@
 -- What a user of the writer of the Route Monitoring body relies on. Assumes nothing.
 use mathlib.Core.Path.{_≡_, sym, ap, subst}
-use mathlib.Core.Bool.{true}
+use mathlib.Core.Bool.{true, false}
 use mathlib.Core.List.{List}
+use mathlib.Core.Logic.{_↔_}
 use Prim.Native.Nat.{ℕ, _+_, _≤_}
 use native.Mathlib.Omega.{arith}
 use lib.ListN.{length, take}
@@ -20,10 +21,12 @@ use Rattle.route_monitoring.specs.Shown.{refusalOf, stopOf, messageOf}
 use Rattle.route_monitoring.specs.Told.{partsOf}
 use Rattle.route_monitoring.specs.Read.{readRouteMonitoring}
 use Rattle.route_monitoring_writer.specs.Write.{bytesOf, writable, Same}
+use Rattle.route_monitoring_writer.specs.Unwritable.{Unwritable}
 use Rattle.route_monitoring.specs.declared.RouteMonitoring.{RouteMonitoring}
 use Rattle.route_monitoring.specs.declared.RouteMonitoringAnswer.{RouteMonitoringAnswer}
 use Rattle.route_monitoring.proofs.Laws.{join-parts, parts-good, accepted, shows-all}
 use Rattle.route_monitoring_writer.proofs.Written.{fine-of, fine-from}
+use Rattle.route_monitoring_writer.proofs.Unwritable.{listed}
 use Rattle.route_monitoring.proofs.Promises.{viewed-all}
 
 -- the bytes s are read as the message m, whose view points into b, to their end
@@ -71,6 +74,10 @@ written-joined m b p w =
     let long : 19 ≤ length (bytesOf m b) = omega (arith, f .has-header, long-bytes m b (f .within)) in
     let q = bytes-viewed b (m .«bgp_message») p in
     (parts-good q long, join-parts q long)
+
+-- A message is not writable exactly where an item of the list holds of it.
+pub unwritable : (m : RouteMonitoring) (room : ℕ) → (writable m room ≡ false) ↔ Unwritable m room
+unwritable = listed
 
 -- ---- any two answers, and any two outputs, that the contract allows are equal
 pub write-determined : (m : RouteMonitoring) (b out : List ℕ) (r q : WriteAnswer) (o p : List ℕ)
