@@ -1,7 +1,8 @@
 -- What a user of the writer of the Peer Down body relies on. Assumes nothing.
 use mathlib.Core.Path.{_≡_, sym, ap, _∙_, subst}
-use mathlib.Core.Bool.{true}
+use mathlib.Core.Bool.{true, false}
 use mathlib.Core.List.{List, []}
+use mathlib.Core.Logic.{_↔_}
 use Prim.Native.Nat.{ℕ, _+_, _≤_}
 use lib.ListN.{length, take}
 use Rattle.wire.specs.Number as Number
@@ -14,11 +15,13 @@ use Rattle.writing.proofs.Answers.{front, wrote-determined}
 use Rattle.peer_down_notification.specs.Grammar.{Data, Follows}
 use Rattle.peer_down_notification.specs.Shown.{kindOf, shownData, refusalOf, stopOf, notificationOf, viewOf, dataOf}
 use Rattle.peer_down_notification_writer.specs.Write.{readingOf, bytesOf, writable, Same}
+use Rattle.peer_down_notification_writer.specs.Unwritable.{Unwritable}
 use Rattle.peer_down_notification.specs.declared.PeerDownNotification.{PeerDownNotification}
 use Rattle.peer_down_notification.specs.declared.PeerDownAnswer.{PeerDownAnswer}
 use Rattle.peer_down_notification.proofs.Laws.{known-of}
 use Rattle.peer_down_notification.proofs.Told.{reason-told}
 use Rattle.peer_down_notification_writer.proofs.Trip.{reason-back, fine-from, good-of, bytes-data, fine-back, ReadsBack, stop-whole, no-more}
+use Rattle.peer_down_notification_writer.proofs.Unwritable.{listed}
 use Rattle.peer_down_notification.proofs.Promises.{sound, complete, views}
 
 reads-back : (m : PeerDownNotification) (b : List ℕ) → Bytes b → writable m (length b) ≡ true → length (bytesOf m b) ≤ Number.limit → ReadsBack m b (bytesOf m b)
@@ -59,6 +62,10 @@ only-writable m b p inside r =
     (subst (λ (d : Data). Follows (kindOf (m .reason)) d (q .tail)) data-is
     (subst (λ (k : ℕ). Follows k (q .data-part) (q .tail)) reason-is (g .follows))) in
     fine-from (kindOf (m .reason)) (m .«data») (length b) (fine-back b (kindOf (m .reason)) (m .«data») inside f)
+
+-- A notification is not writable exactly where an item of the list holds of it.
+pub unwritable : (m : PeerDownNotification) (room : ℕ) → (writable m room ≡ false) ↔ Unwritable m room
+unwritable = listed
 
 -- ---- any two answers, and any two outputs, that the contract allows are equal
 pub write-determined : (m : PeerDownNotification) (b out : List ℕ) (r q : WriteAnswer) (o p : List ℕ)
