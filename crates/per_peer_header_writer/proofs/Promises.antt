@@ -1,8 +1,9 @@
 -- What a user of the writer of the per-peer header relies on. Assumes nothing.
 use Prim.Native.Nat.{ℕ, _≤_}
-use mathlib.Core.Bool.{true}
+use mathlib.Core.Bool.{true, false}
 use mathlib.Core.Path.{_≡_, sym, ap, _∙_}
 use mathlib.Core.List.{List}
+use mathlib.Core.Logic.{_↔_}
 use native.Mathlib.Omega.{arith}
 use lib.ListN.{length, take}
 use Rattle.wire.specs.Number as Number
@@ -14,9 +15,11 @@ use Rattle.peer.specs.declared.BmpPerPeerHeader.{BmpPerPeerHeader}
 use Rattle.per_peer_header.specs.Shown.{shown}
 use Rattle.per_peer_header.specs.Read.{readPerPeerHeader}
 use Rattle.per_peer_header_writer.specs.Write.{readingOf, bytesOf, writable, Typed}
+use Rattle.per_peer_header_writer.specs.Unwritable.{Unwritable}
 use Rattle.per_peer_header.specs.declared.PerPeerHeaderAnswer.{PerPeerHeaderAnswer}
 use Rattle.per_peer_header.proofs.Laws.{length-join}
 use Rattle.per_peer_header_writer.proofs.Written.{good-reading, shown-again, again-writable}
+use Rattle.per_peer_header_writer.proofs.Unwritable.{listed}
 use Rattle.per_peer_header.proofs.Promises.{complete}
 
 -- the bytes s are read as the header h, to their end
@@ -48,6 +51,10 @@ round-trip h t out out′ a wrote w room =
 -- A header whose bytes are read back as itself is writable.
 pub only-writable : (h : BmpPerPeerHeader) → Typed h → ReadsBack h (bytesOf h) → writable h ≡ true
 only-writable h t r = again-writable h t (ap (λ (x : PerPeerHeaderAnswer). x .header) (sym (reads h t)) ∙ r .same)
+
+-- A header whose fields are of their types is not writable exactly where an item of the list holds of it.
+pub unwritable : (h : BmpPerPeerHeader) → Typed h → (writable h ≡ false) ↔ Unwritable h
+unwritable = listed
 
 -- ---- any two answers, and any two outputs, that the contract allows are equal
 pub write-determined : (h : BmpPerPeerHeader) (out : List ℕ) (a b : WriteAnswer) (o p : List ℕ)
