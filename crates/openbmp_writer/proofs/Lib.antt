@@ -1,3 +1,4 @@
 pub mod Written
 pub mod Trip
+pub mod Unwritable
 pub mod Promises

@@ -1,8 +1,9 @@
 -- What a user of the writer of the OpenBMP header relies on. Assumes nothing.
 use Prim.Native.Nat.{ℕ, _+_, _≤_}
-use mathlib.Core.Bool.{true}
+use mathlib.Core.Bool.{true, false}
 use mathlib.Core.Path.{_≡_, sym, ap, _∙_, subst}
 use mathlib.Core.List.{List}
+use mathlib.Core.Logic.{_↔_}
 use native.Mathlib.Omega.{arith}
 use lib.ListN.{length, take}
 use Rattle.wire.specs.Number as Number
@@ -14,10 +15,12 @@ use Rattle.writing.proofs.Answers.{front, wrote-determined}
 use Rattle.openbmp.specs.Shown.{shownHeader}
 use Rattle.openbmp.specs.Read.{readOpenBmpHeader}
 use Rattle.openbmp_writer.specs.Write.{readingOf, bytesOf, writable, Typed, Same}
+use Rattle.openbmp_writer.specs.Unwritable.{Unwritable}
 use Rattle.openbmp.specs.declared.OpenBmpHeader.{OpenBmpHeader}
 use Rattle.openbmp.specs.declared.OpenBmpAnswer.{OpenBmpAnswer}
 use Rattle.openbmp.proofs.Laws.{length-join}
 use Rattle.openbmp_writer.proofs.Trip.{bytes-written, good-reading, short-enough, same-again, again-writable}
+use Rattle.openbmp_writer.proofs.Unwritable.{listed}
 use Rattle.openbmp.proofs.Promises.{sound, complete}
 
 -- the bytes s are read as the header h, whose views point into b, to their end
@@ -53,6 +56,10 @@ module _ (h : OpenBmpHeader) (b : List ℕ) (t : Typed h) (p : Bytes b) where
       let x = sound s (bytes-written h b t p) (r .read-good) in
       let same = subst (λ (a : OpenBmpAnswer). Same h b (a .header) s) (x .1 .shown-so) (r .same) in
       again-writable h b t p admin group (x .0) (x .1 .reading .is-good) (subst (Same h b (shownHeader (x .0))) (sym (x .1 .reading .joined)) same)
+
+-- A header whose fields are of their types is not writable exactly where an item of the list holds of it.
+pub unwritable : (h : OpenBmpHeader) (room : ℕ) → Typed h → (writable h room ≡ false) ↔ Unwritable h room
+unwritable = listed
 
 -- ---- any two answers, and any two outputs, that the contract allows are equal
 pub write-determined : (h : OpenBmpHeader) (b out : List ℕ) (r q : WriteAnswer) (o p : List ℕ)
