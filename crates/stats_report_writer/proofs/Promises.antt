@@ -1,7 +1,8 @@
 -- What a user of the writer of the Statistics body relies on. Assumes nothing.
 use mathlib.Core.Path.{_≡_}
-use mathlib.Core.Bool.{true}
+use mathlib.Core.Bool.{true, false}
 use mathlib.Core.List.{List}
+use mathlib.Core.Logic.{_↔_}
 use Prim.Native.Nat.{ℕ, _≤_, _<_}
 use native.Mathlib.Omega.{arith}
 use lib.ListN.{length, take, getD}
@@ -14,10 +15,12 @@ use Rattle.writing.proofs.Answers.{front, wrote-determined}
 use Rattle.stats_report.specs.Grammar.{places}
 use Rattle.stats_report.specs.Shown.{zeroCounter}
 use Rattle.stats_report_writer.specs.Write.{readingOf, bytesOf, writable}
+use Rattle.stats_report_writer.specs.Unwritable.{Unwritable, Typed}
 use Rattle.stats_report.specs.declared.StatsReport.{StatsReport}
 use Rattle.stats_report_writer.proofs.Written.{writes-of}
 use Rattle.stats_report_writer.proofs.Trip.{parts-count, good-of, ReadsBack, reads-back}
 use Rattle.stats_report_writer.proofs.Converse.{Inside, bytes-written, writable-from}
+use Rattle.stats_report_writer.proofs.Unwritable.{listed}
 use Rattle.stats_report.proofs.Promises.{sound, complete, views}
 
 -- What the writer has written, where the record is writable and there is room, is read back as the same record.
@@ -38,6 +41,10 @@ pub only-writable : (m : StatsReport) (b : List ℕ) → Bytes b → length (m .
 only-writable m b p long inside r =
     let q = sound (bytesOf m b) (bytes-written m b p) (r .read-good) in
     writable-from m b long inside (q .0) (q .1) (views (q .0) (q .1 .reading .is-good)) r
+
+-- A record whose fields are of their types is not writable exactly where an item of the list holds of it.
+pub unwritable : (m : StatsReport) (room : ℕ) → Typed m → (writable m room ≡ false) ↔ Unwritable m room
+unwritable = listed
 
 -- ---- any two answers, and any two outputs, that the contract allows are equal
 pub write-determined : (m : StatsReport) (b out : List ℕ) (r q : WriteAnswer) (o p : List ℕ)
