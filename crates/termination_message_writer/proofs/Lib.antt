@@ -1,3 +1,4 @@
+pub mod Unwritable
 pub mod Written
 pub mod Trip
 pub mod Converse

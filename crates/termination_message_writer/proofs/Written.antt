@@ -4,8 +4,8 @@ use mathlib.Core.Bool.{Bool, true, false}
 use mathlib.Core.List.{List, [], _∷_, _++_}
 use Prim.Native.Nat.{ℕ, _+_, _/_, _%_, _≤_}
 use native.Mathlib.Omega.{arith}
-use borrow.Author.Tests.{le-leb, le-ltb, eq-eqb, ne-eqb, leb-true, ltb-false, eqb-true, eqb-false}
-use lib.Dec.{leb, ltb, eqb}
+use borrow.Author.Tests.{le-leb, le-ltb, eq-eqb, ne-eqb, eqb-true, eqb-false}
+use lib.Dec.{eqb}
 use lib.ListN.{length, length-map}
 use mir.Val.{Val}
 use denote.Laws.{Is}
@@ -13,7 +13,6 @@ use denote.Struct.Laws as Struct
 use Rattle.wire.specs.Bytes.{pick, be}
 use Rattle.wire.specs.View.{viewed}
 use Rattle.wire.proofs.Tlv.{put-tlv-long, coded-length}
-use Rattle.writing.proofs.Tests.{both, past}
 use Rattle.tlv_table.specs.Tlvs.{entryWritable, entryWritableBefore, oneTlv}
 use Rattle.tlv_table.specs.declared.TlvValue.the-variants.{Part, Number}
 use Rattle.tlv_table.specs.declared.TlvEntry.{TlvEntry}
@@ -24,6 +23,7 @@ use Rattle.termination_message.specs.Shown.{textOf}
 use Rattle.termination_message_writer.specs.Write.{partOf, reasonWritable, tlvWritable, writer, entryOf}
 use Rattle.termination_message.specs.declared.TerminationTlv.{TerminationTlv}
 use Rattle.termination_message.specs.declared.TerminationMessage.{TerminationMessage}
+use Rattle.termination_message_writer.proofs.Unwritable.{reason-writable}
 use Rattle.termination_message.proofs.TerminationMessage as Message
 use Rattle.termination_message.proofs.TerminationMessage.Laws as MessageLaws
 
@@ -56,10 +56,8 @@ fine-of room after t e = go (eqb (t .kind) 0) refl e
     go true h q = a-text (eqb-true (t .kind) 0 h) (before-of room after (textEntry t) q)
     go false h q =
         let some = eqb-false (t .kind) 0 h in
-        let k = past (ltb 1 (t .kind)) _ q in
-        let n = both (eqb (t .«info_len») 2) (leb (t .number) 4) (k .1) in
-        let few = ltb-false 1 (t .kind) (k .0) in
-        a-code (omega arith) (eqb-true (t .«info_len») 2 (n .0)) (leb-true (t .number) 4 (n .1))
+        let w = reason-writable t q in
+        a-code (omega (arith, some, w .0)) (w .1) (w .2)
 
 pub fine-from : (room after : ℕ) (t : TerminationTlv) → Fine room after t → tlvWritable room after t ≡ true
 unfolding tlvWritable
