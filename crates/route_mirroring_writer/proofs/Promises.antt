@@ -1,7 +1,8 @@
 -- What a user of the writer of the Route Mirroring body relies on. Assumes nothing.
 use mathlib.Core.Path.{_≡_, _∙_}
-use mathlib.Core.Bool.{true}
+use mathlib.Core.Bool.{true, false}
 use mathlib.Core.List.{List}
+use mathlib.Core.Logic.{_↔_}
 use Prim.Native.Nat.{ℕ, _≤_, _<_}
 use native.Mathlib.Omega.{arith}
 use lib.ListN.{length-take, length, take, getD}
@@ -16,10 +17,12 @@ use Rattle.tlv_table.proofs.Table.{all-bytes}
 use Rattle.route_mirroring.specs.Grammar.{places}
 use Rattle.route_mirroring.specs.Shown.{zeroTlv}
 use Rattle.route_mirroring_writer.specs.Write.{writer, kept, readingOf, bytesOf, writable}
+use Rattle.route_mirroring_writer.specs.Unwritable.{Unwritable, Typed}
 use Rattle.route_mirroring.specs.declared.RouteMirroring.{RouteMirroring}
 use Rattle.route_mirroring_writer.proofs.Written.{entries}
 use Rattle.route_mirroring_writer.proofs.Trip.{good-of, ReadsBack, reads-back}
 use Rattle.route_mirroring_writer.proofs.Converse.{Inside, TwoBytes, writable-from}
+use Rattle.route_mirroring_writer.proofs.Unwritable.{listed}
 use Rattle.route_mirroring.proofs.Promises.{sound, complete, views}
 
 -- What the writer has written, where the record is writable and there is room, is read back as the same record.
@@ -41,6 +44,10 @@ pub only-writable : (m : RouteMirroring) (b : List ℕ) → Bytes b → length (
 only-writable m b p long inside two r =
     let q = sound (bytesOf m b) (all-bytes entries b p (kept m)) (r .read-good) in
     writable-from m b long inside two (q .0) (q .1) (views (q .0) (q .1 .reading .is-good)) r
+
+-- A record whose fields are of their types is not writable exactly where an item of the list holds of it.
+pub unwritable : (m : RouteMirroring) (room : ℕ) → Typed m → (writable m room ≡ false) ↔ Unwritable m room
+unwritable = listed
 
 -- ---- any two answers, and any two outputs, that the contract allows are equal
 pub write-determined : (m : RouteMirroring) (b out : List ℕ) (r q : WriteAnswer) (o p : List ℕ)
