@@ -1,4 +1,5 @@
 pub mod Written
 pub mod Trip
 pub mod Converse
+pub mod Unwritable
 pub mod Promises

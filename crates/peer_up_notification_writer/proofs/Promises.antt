@@ -1,7 +1,8 @@
 -- What a user of the writer of the Peer Up body relies on. Assumes nothing.
 use mathlib.Core.Path.{_≡_, _∙_}
-use mathlib.Core.Bool.{true}
+use mathlib.Core.Bool.{true, false}
 use mathlib.Core.List.{List}
+use mathlib.Core.Logic.{_↔_}
 use Prim.Native.Nat.{ℕ, _≤_}
 use native.Mathlib.Omega.{arith}
 use lib.ListN.{length, take, length-take}
@@ -15,10 +16,12 @@ use Rattle.writing.proofs.Table.{length-parts}
 use Rattle.peer_type.specs.declared.BmpPeerType.{BmpPeerType}
 use Rattle.peer_up_notification.specs.Shown.{kept}
 use Rattle.peer_up_notification_writer.specs.Write.{writer, readingOf, bytesOf, writable, Typed}
+use Rattle.peer_up_notification_writer.specs.Unwritable.{Unwritable, TlvsTyped}
 use Rattle.peer_up_notification.specs.declared.PeerUpNotification.{PeerUpNotification}
 use Rattle.peer_up_notification_writer.proofs.Written.{writes-of}
 use Rattle.peer_up_notification_writer.proofs.Trip.{good-of, ReadsBack, reads-back}
 use Rattle.peer_up_notification_writer.proofs.Converse.{Inside, bytes-written, writable-from}
+use Rattle.peer_up_notification_writer.proofs.Unwritable.{listed}
 use Rattle.peer_up_notification.proofs.Promises.{complete, sound, views}
 
 -- What the writer has written, where the record is writable and there is room, is read back with its own family as the same record,
@@ -42,6 +45,10 @@ only-writable peer m b p t inside r =
     let afi = m .«local_addr» .afi in
     let q = sound afi peer (bytesOf m b) (bytes-written m b p t) (r .read-good) in
     writable-from peer m b p t inside (q .0) (q .1) (views afi peer (q .0) (q .1 .reading .is-good)) r
+
+-- A record whose fields are of their types is not writable exactly where an item of the list holds of it.
+pub unwritable : (m : PeerUpNotification) (b : List ℕ) → Typed m → TlvsTyped m → (writable m b ≡ false) ↔ Unwritable m b
+unwritable = listed
 
 -- ---- any two answers, and any two outputs, that the contract allows are equal
 pub write-determined : (m : PeerUpNotification) (b out : List ℕ) (r q : WriteAnswer) (o p : List ℕ)
