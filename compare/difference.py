@@ -5,8 +5,8 @@ Left out are the parts that the Rust does not have (tail, sec, usec, time), and 
 with the line of LIST where that is given. Strings are compared as bytes, whatever the bytes are. A refusal of ours goes with a refusal of
 the Rust under a name that the number stands for; a name does not tell the number.
 
-Not compared: lines with a BGP message that the oracle cannot accept (`outside`), verbs that it does not have (`none`), and answers of 7
-where the Rust's table is longer than ours, or the Rust refuses what comes later. The one difference that is intended (warning 8 goes by
+Not compared: lines with a BGP message that the oracle cannot accept (`outside`), verbs that it does not have (`none`), answers of 1 to lines of
+more bytes than a reader takes, and answers of 7 where the Rust's table is longer than ours, or the Rust refuses what comes later. The one difference that is intended (warning 8 goes by
 bytes here, and by UTF-8 in the Rust) is known by what it must look like, and counted apart.
 
 After the differences come the pairs of number and name that were met, and in the last line the counts. The exit status is 0 where nothing
@@ -18,8 +18,8 @@ import itertools
 import re
 import sys
 
-# 3, 5, 8 and 9 stand for one name each. Of the others only the refusal would have to agree; their names are held as well. No line is long
-# enough for 1, and no reader gives a number above 9.
+# 3, 5, 8 and 9 stand for one name each. Of the others only the refusal would have to agree; their names are held as well. No
+# reader gives a number above 9.
 NAMES = {
     2: {"CorruptedBgpMessage"},
     3: {"CorruptedBmpMessage"},
@@ -29,7 +29,9 @@ NAMES = {
     8: {"InvalidOpenBmpHeader"},
     9: {"UnsupportedOpenBmpMessage"},
 }
+TOO_LONG = 1
 TOO_MANY = 7
+LIMIT = 1_048_576
 NAME_LENGTH_BIT = 8
 MOST = {"tlvs": 32, "counters": 64}
 KINDS = ("equal", "refused by both", "warning 8 by bytes", "outside", "no such verb", "above the limits", "different")
@@ -67,13 +69,21 @@ def too_many(oracle):
     return bool(table) and table[2].count(",") + 1 > MOST[table[1]]
 
 
-def kind(ours, oracle):
-    """One of KINDS for two answers to one line."""
+def is_too_long(line):
+    """Whether a line of the list has more bytes than a reader takes."""
+    parts = (part.rpartition("*") for part in line.split(" ")[-1].split("+"))
+    return sum(int(times or 1) * (len(digits) // 2) for times, _, digits in parts) > LIMIT
+
+
+def kind(ours, oracle, line):
+    """One of KINDS for two answers to one line, where that is known."""
     if oracle == "outside":
         return "outside"
     if oracle == "none":
         return "different" if ours == "bad line" else "no such verb"
     refused = REFUSED.fullmatch(ours)
+    if refused and int(refused[1]) == TOO_LONG:
+        return "above the limits" if line and is_too_long(line) else "different"
     if refused and int(refused[1]) == TOO_MANY:
         return "above the limits" if too_many(oracle) else "different"
     if refused:
@@ -101,7 +111,7 @@ def compare(ours, oracle, asked=None):
             print(f"{number}: one of the files ends here")
             counts["different"] += 1
             break
-        found = kind(here, there)
+        found = kind(here, there, line)
         counts[found] += 1
         if found == "refused by both":
             pairs[here.split()[1], there.split()[1]] += 1

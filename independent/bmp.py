@@ -345,9 +345,13 @@ class Raw(NamedTuple):
 
 
 class StatCounter(NamedTuple):
+    """Only an AfiSafiGauge uses an AFI and a SAFI, and has them in itself; every other form has two parts that it does not use."""
+
     stat_type: int
     stat_len: int
     stat_data: object
+    unused_afi: int = 0
+    unused_safi: int = 0
 
 
 class StatsReport(NamedTuple):
@@ -393,12 +397,14 @@ def stats_data(data, view):
 
 def is_counter_writable(counter, buffer):
     stat_len, value = counter.stat_len, counter.stat_data
+    if counter.unused_afi != 0 or counter.unused_safi != 0:
+        return False
     if isinstance(value, Counter):
-        return stat_len == 4
+        return stat_len == 4 and value.value <= 0xFFFFFFFF
     if isinstance(value, Gauge):
         return stat_len == 8
     if isinstance(value, AfiSafiGauge):
-        return stat_len == 11
+        return stat_len == 11 and value.safi <= 255
     return stat_len not in (4, 8, 11) and is_inside(buffer, value.view) and value.view.length == stat_len
 
 
@@ -481,6 +487,12 @@ def write_initiation_message(record, buffer, output):
     )
 
 
+class UnknownType(NamedTuple):
+    """The value of a TLV whose type is above 1, in Termination or Route Mirroring: no reader shows it, and no writer writes it."""
+
+    info_type: int
+
+
 # Termination.
 
 
@@ -529,6 +541,8 @@ def read_termination_reason(cursor):
 
 def is_termination_tlv_writable(tlv, buffer):
     value = tlv.info_value
+    if isinstance(value, UnknownType):
+        return False
     if isinstance(value, Reason):
         return value.reason <= 4 and tlv.info_len == 2
     return is_inside(buffer, value.view) and value.view.length == tlv.info_len
@@ -601,6 +615,8 @@ def read_mirroring_information(cursor):
 
 def is_mirroring_tlv_writable(tlv, buffer):
     value = tlv.value
+    if isinstance(value, UnknownType):
+        return False
     if isinstance(value, Information):
         return value.information <= 1 and tlv.info_len == 2
     return is_bgp_view(value.view, buffer) and value.view.length == tlv.info_len

@@ -1,4 +1,7 @@
-"""The fixed list of cases for replay, on standard output. The same list at every run; its last line has no LF."""
+"""The fixed list of cases for replay, on standard output; with the argument `records` that for records.
+
+The same lists at every run. The last line of the first has no LF.
+"""
 
 import sys
 
@@ -6,6 +9,7 @@ TYPES = range(4)
 MONITORING_ARGS = [f"asn={asn},type={peer}" for asn in (16, 32) for peer in TYPES]
 PEER_UP_ARGS = [f"afi={afi},asn={asn},type={peer}" for afi in (4, 6) for asn in (16, 32) for peer in TYPES]
 LARGEST = 0xFFFFFFFF
+LIMIT = 1_048_576
 
 
 def u8(number):
@@ -413,10 +417,128 @@ def argument_lines():
             yield from both("peerup", args, data)
 
 
+def text_line(verb, args, *parts):
+    """A line whose bytes are parts with a plus between them: bytes, or a number and the bytes that stand so many times."""
+    return f"{verb} {args} {'+'.join(part_text(part) for part in parts)}".encode()
+
+
+def part_text(part):
+    return part.hex() if isinstance(part, bytes) else f"{part[0]}*{part[1].hex()}"
+
+
+def limit_lines():
+    """Both sides of every limit, with bytes that repeat."""
+    yield b"initiation - 33*00000000+0000000141"
+    message = tlv(0, bgp())
+    for verb, args in [("initiation", "-"), ("termination", "-"), ("mirroring", "asn=32,type=0")]:
+        for count in (32, 33):
+            yield text_line(verb, args, (count, message))
+            yield text_line("rewrite-" + verb, args, (count, message))
+    for count in (32, 33):
+        yield text_line("peerup", "afi=6,asn=32,type=0", peer_up(), (count, tlv(9, b"")))
+    for count in (64, 65):
+        yield text_line("stats", "-", u32(count), (count, u16(7) + u16(4) + u32(count)))
+    for length in (LIMIT, LIMIT + 1):
+        yield from slice_lines(length)
+    for length in (LIMIT, LIMIT + 1):
+        yield text_line("split", "-", common(length=length), (LIMIT - 6, b"\x00"))
+
+
+def slice_lines(length):
+    """A slice of this length for each reader and the splitter. Those that would show all of it are not asked for more than a refusal."""
+    slices = [
+        ("common", "-", common()), ("split", "-", common()), ("perpeer", "-", peer()), ("openbmp", "-", open_bmp()),
+        ("stats", "-", u32(0)), ("initiation", "-", b"\x00"), ("termination", "-", b"\x00"),
+        ("mirroring", "asn=32,type=0", b"\x00"), ("peerup", "afi=6,asn=32,type=0", peer_up()), ("peerdown", "-", u8(4)),
+    ]  # fmt: skip
+    if length > LIMIT:
+        slices.append(("monitoring", "asn=32,type=0", b"\x00"))
+    for verb, args, front in slices:
+        yield text_line(verb, args, front, (length - len(front), b"\x00"))
+
+
+PATTERN = bytes(range(12))
+
+
+def filled(length):
+    """As many bytes of a pattern without two neighbours that are alike."""
+    whole, rest = divmod(length, len(PATTERN))
+    return [(whole, PATTERN)] + ([PATTERN[:rest]] if rest else [])
+
+
+def whole_table(*front):
+    """Sixteen entries of type 0 that fill the longest slice; the first is shorter than the others by what stands before it."""
+    before = sum(len(part) for part in front)
+    parts = list(front)
+    for length in [65_532 - before] + 15 * [65_532]:
+        parts += [u16(0) + u16(length)] + filled(length)
+    return parts
+
+
+def record_lines():
+    """For each writer the longest record that it writes, and small ones. Bytes that the reader skips are zero, as they are written."""
+    opens = bgp(19, kind=1) + bgp(19, kind=1)
+    openbmp = open_bmp(flags=0xC0)[:22] + bytes(16)
+    strings = [u16(65_535), *filled(65_535)]
+    yield text_line("rewrite-common", "-", common())
+    yield text_line("rewrite-perpeer", "-", peer(flags=0x80, address=bytes(range(16))))
+    yield text_line("rewrite-openbmp", "-", openbmp, *strings, bytes(16) + bytes(range(16)), *strings, u32(1))
+    yield text_line("rewrite-stats", "-", *whole_table(u32(16)))
+    yield text_line("rewrite-initiation", "-", *whole_table())
+    yield text_line("rewrite-termination", "-", *whole_table())
+    yield text_line("rewrite-mirroring", "asn=32,type=0", *whole_table())
+    yield text_line("rewrite-peerup", "afi=6,asn=32,type=0", *whole_table(bytes(range(20)) + opens))
+    yield text_line("rewrite-peerdown", "-", u8(1), *filled(LIMIT - 1))
+    yield text_line("rewrite-monitoring", "asn=32,type=0", *filled(LIMIT))
+    yield text_line("rewrite-initiation", "-", tlv(2, b"A"))
+    yield from small_header_lines()
+    yield from small_table_lines()
+    yield b"rewrite-peerdown - 01aa"
+    yield b"rewrite-peerdown - 00aa"
+    yield b"rewrite-peerdown - 04"
+    yield text_line("rewrite-monitoring", "asn=32,type=0", bgp())
+    yield b"rewrite-termination - 0001000109"
+    yield b"rewrite-initiation - -"
+    yield b"initiation - 0002000141"
+    yield b"rewrite-split - 030000000604"
+    yield b""
+
+
+def small_header_lines():
+    """Addresses of both families, the second with twelve zero octets in front; a Loc-RIB without a time."""
+    yield text_line("rewrite-perpeer", "-", peer())
+    yield text_line("rewrite-perpeer", "-", peer(flags=0x80))
+    yield text_line("rewrite-perpeer", "-", peer(kind=3, address=bytes(16), seconds=0, microseconds=0))
+    for flags, address, string in [(0x80, bytes([10, 0, 0, 1]) + bytes(12), tlv(0, b"A")[2:]), (0xC0, FULL_ADDRESS, u16(0))]:
+        start = open_bmp(flags=flags)[:22] + bytes(16)
+        yield text_line("rewrite-openbmp", "-", start + string + bytes(16) + address + string + u32(1))
+
+
+def small_table_lines():
+    """For each body with a table one entry of each form, and as many as the table holds."""
+    values = [u32(3), u64(3), u16(1) + u8(1) + u64(3), b"A"]
+    yield from [text_line("rewrite-stats", "-", stats([tlv(7, value)])) for value in values]
+    yield text_line("rewrite-stats", "-", u32(64), (64, tlv(7, u32(3))))
+    yield text_line("rewrite-initiation", "-", (32, tlv(2, b"A")))
+    yield text_line("rewrite-termination", "-", tlv(0, b"A"))
+    yield text_line("rewrite-termination", "-", reason(0))
+    yield text_line("rewrite-termination", "-", (32, reason(0)))
+    yield text_line("rewrite-mirroring", "asn=32,type=0", tlv(0, bgp()))
+    yield text_line("rewrite-mirroring", "asn=32,type=0", tlv(1, u16(1)))
+    yield text_line("rewrite-mirroring", "asn=32,type=0", (32, tlv(1, u16(1))))
+    yield text_line("rewrite-peerup", "afi=4,asn=32,type=0", peer_up(tlv(0, b"A")))
+    yield text_line("rewrite-peerup", "afi=6,asn=32,type=0", peer_up())
+    yield text_line("rewrite-peerup", "afi=4,asn=32,type=0", peer_up(), (32, tlv(0, b"A")))
+
+
 def longest_lines():
-    """131,072 digits and two more."""
+    """131,072 digits and two more; as many characters with digits that repeat, and two more."""
     longest = bytes(range(256)) * 256
-    return [line("monitoring", "asn=32,type=0", longest), line("rewrite-monitoring", "asn=16,type=3", longest + b"\x00")]
+    digits = "0" * 131_066
+    return [
+        line("monitoring", "asn=32,type=0", longest), line("rewrite-monitoring", "asn=16,type=3", longest + b"\x00"),
+        f"peerdown - 04+10*{digits}".encode(), f"peerdown - 0400+10*{digits}".encode(),
+    ]  # fmt: skip
 
 
 BAD_LINES = r"""
@@ -531,6 +653,37 @@ equal - 00
 equal asn=32,type=0 00
 Equal - 00
 rewrite-equal - 00
+initiation - +
+initiation - 00+
+initiation - +00
+initiation - 00++00
+initiation - -+00
+initiation - 00+-
+initiation - *
+initiation - *00
+initiation - 2*
+initiation - 2*-
+initiation - 2*0
+initiation - 2*000
+initiation - 2*0g
+initiation - 2*3*00
+initiation - 2*00*00
+initiation - 2**00
+initiation - 0*00
+initiation - 02*00
+initiation - a*00
+initiation - -1*00
+initiation - 2 *00
+initiation - 2*00+0
+initiation - 2*00+3
+initiation - 1048578*00
+initiation - 1048577*00+00
+initiation - 1048577*0000
+initiation - 10485770*00
+initiation - 18446744073709551617*00
+initiation - 524289*0000
+equal - 83*00
+equal - 85*00
 """
 
 
@@ -551,10 +704,12 @@ def lines():
     yield from [line("split", "-", data) for data in split_cases()]
     yield from [line("equal", "-", data) for data in equal_cases()]
     yield from longest_lines()
+    yield from limit_lines()
+    yield from [b"equal - 84*00", b"equal - 2*" + peer().hex().encode()]
     yield from [b"", b"common - -", b"", b"", b"split - -"]
     yield from bad_lines()
     yield b"common - 030000000604"
 
 
 if __name__ == "__main__":
-    sys.stdout.buffer.write(b"\n".join(lines()))
+    sys.stdout.buffer.write(b"\n".join(record_lines() if sys.argv[1:] == ["records"] else lines()))

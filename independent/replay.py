@@ -3,14 +3,16 @@
 Lines are VERB ARGS HEX, as docs/REPLAY.md has them.
 """
 
+import re
 import sys
 
 import bmp
 
-MAX_DIGITS = 131_072
+MAX_CHARACTERS = 131_072
+MAX_BYTES = 1_048_577
 BAD_LINE = "bad line"
 NO_ARGUMENTS = {b"-": {}}
-NOT_A_DIGIT = bytes(set(range(256)) - set(b"0123456789abcdef"))
+PART = re.compile(rb"(?:([1-9][0-9]{0,6})\*)?((?:[0-9a-f]{2})+)")
 
 
 def mirroring_arguments():
@@ -204,15 +206,22 @@ def verbs():
 VERBS = verbs()
 
 
-def bytes_of(digits):
+def bytes_of(text):
     """The bytes of a HEX field, or None where it is not one."""
-    if digits == b"-":
+    if text == b"-":
         return b""
-    if not digits or len(digits) % 2 or len(digits) > MAX_DIGITS:
+    if len(text) > MAX_CHARACTERS:
         return None
-    if len(digits.translate(None, NOT_A_DIGIT)) != len(digits):
-        return None
-    return bytes.fromhex(digits.decode("ascii"))
+    data = bytearray()
+    for part in text.split(b"+"):
+        found = PART.fullmatch(part)
+        if not found:
+            return None
+        times, digits = int(found.group(1) or 1), found.group(2)
+        if len(data) + times * (len(digits) // 2) > MAX_BYTES:
+            return None
+        data += bytes.fromhex(digits.decode("ascii")) * times
+    return bytes(data)
 
 
 def answer(line):

@@ -380,6 +380,8 @@ class NotWritable(unittest.TestCase):
             bad.append(bmp.StatCounter(0, length + 1, data))
         bad += [bmp.StatCounter(0, n, bmp.Raw(bmp.View(0, n))) for n in (4, 8, 11, 21)]
         bad.append(bmp.StatCounter(0, 0, bmp.Raw(bmp.View(21, 0))))
+        bad += [bmp.StatCounter(0, 4, bmp.Counter(2**32)), bmp.StatCounter(0, 11, bmp.AfiSafiGauge(1, 256, 1))]
+        bad += [counter._replace(unused_afi=1) for counter in good] + [counter._replace(unused_safi=1) for counter in good]
         for expected, counters in ((0, good), (12, bad)):
             for counter in counters:
                 self.assertEqual(self.number(bmp.write_stats_report, bmp.StatsReport(1, [counter])), expected, counter)
@@ -414,6 +416,7 @@ class NotWritable(unittest.TestCase):
 
         self.assertEqual(termination(2, bmp.Reason(4)), 0)
         self.assertEqual(termination(2, bmp.Reason(5)), 12)
+        self.assertEqual(termination(2, bmp.UnknownType(2)), 12)
         self.assertEqual(termination(1, bmp.Reason(4)), 12)
         self.assertEqual(termination(0, bmp.String(bmp.View(0, 0))), 12)
         self.assertEqual(termination(2, bmp.String(bmp.View(0, 1))), 12)
@@ -428,6 +431,7 @@ class NotWritable(unittest.TestCase):
         self.assertEqual(mirroring(20, bmp.BgpMessage(bmp.View(1, 20))), 12)
         self.assertEqual(mirroring(2, bmp.Information(1)), 0)
         self.assertEqual(mirroring(2, bmp.Information(2)), 12)
+        self.assertEqual(mirroring(2, bmp.UnknownType(2)), 12)
         self.assertEqual(mirroring(7, bmp.Information(1)), 12)
         for count, expected in ((32, 0), (33, 12)):
             record = bmp.TerminationMessage([bmp.TerminationTlv(2, bmp.Reason(0))] * count)
@@ -717,6 +721,12 @@ class Recordings(unittest.TestCase):
             self.assertEqual([count(bgp)] if bgp else [], expected)
 
         self.each(check)
+
+    def test_bytes_that_repeat(self):
+        self.assertEqual(replay.bytes_of(b"2*0001+ff+1*00"), bytes.fromhex("00010001ff00"))
+        self.assertEqual(replay.bytes_of(b"1048577*00"), bytes(1_048_577))
+        for text in (b"1048578*00", b"1048577*00+00", b"0*00", b"01*00", b"*00", b"2*", b"2*0", b"2*-", b"00+", b"+00", b"2*2*00", b""):
+            self.assertIsNone(replay.bytes_of(text))
 
     def test_rewriting(self):
         """The recordings have zeros where readers skip bytes, and no tails: what is written is what was read."""

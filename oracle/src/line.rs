@@ -3,7 +3,8 @@
 use crate::bmp::messages::BmpPeerType;
 use crate::models::{Afi, AsnLength};
 
-const MOST_DIGITS: usize = 131_072;
+const MOST_CHARACTERS: usize = 131_072;
+const MOST_BYTES: usize = 1_048_577;
 const TWO_HEADERS: usize = 84;
 const READERS: [&str; 10] = [
     "common", "perpeer", "stats", "initiation", "termination", "peerdown", "openbmp", "mirroring", "monitoring", "peerup",
@@ -26,12 +27,12 @@ impl Line<'_> {
     /// None for every line that is not of the language.
     pub fn read(line: &[u8]) -> Option<Line<'_>> {
         let mut fields = std::str::from_utf8(line).ok()?.split(' ');
-        let (verb, args, digits) = (fields.next()?, fields.next()?, fields.next()?);
+        let (verb, args, text) = (fields.next()?, fields.next()?, fields.next()?);
         if fields.next().is_some() {
             return None;
         }
         let args = read_args(verb, args)?;
-        let bytes = read_hex(digits.as_bytes())?;
+        let bytes = read_hex(text)?;
         if verb == "equal" && bytes.len() != TWO_HEADERS {
             return None;
         }
@@ -90,11 +91,38 @@ fn read_peer_type(part: &str) -> Option<BmpPeerType> {
     }
 }
 
-fn read_hex(digits: &[u8]) -> Option<Vec<u8>> {
-    if digits == b"-" {
+fn read_hex(text: &str) -> Option<Vec<u8>> {
+    if text == "-" {
         return Some(vec![]);
     }
-    if digits.is_empty() || digits.len() % 2 != 0 || digits.len() > MOST_DIGITS {
+    if text.len() > MOST_CHARACTERS {
+        return None;
+    }
+    let mut bytes = vec![];
+    for part in text.split('+') {
+        let (times, digits) = match part.split_once('*') {
+            Some((number, digits)) => (read_times(number)?, digits),
+            None => (1, part),
+        };
+        let once = read_digits(digits.as_bytes())?;
+        if bytes.len() + times * once.len() > MOST_BYTES {
+            return None;
+        }
+        bytes.extend(once.repeat(times));
+    }
+    Some(bytes)
+}
+
+/// A decimal number from 1 to 1,048,577 without a leading zero.
+fn read_times(number: &str) -> Option<usize> {
+    if number.starts_with('0') || !number.bytes().all(|digit| digit.is_ascii_digit()) {
+        return None;
+    }
+    number.parse().ok().filter(|times| (1..=MOST_BYTES).contains(times))
+}
+
+fn read_digits(digits: &[u8]) -> Option<Vec<u8>> {
+    if digits.is_empty() || digits.len() % 2 != 0 {
         return None;
     }
     digits.chunks_exact(2).map(|pair| Some(read_digit(pair[0])? * 16 + read_digit(pair[1])?)).collect()

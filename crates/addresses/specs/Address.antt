@@ -2,9 +2,14 @@
 use Prim.Native.Nat.{ℕ}
 use mathlib.Core.List.{List, _++_}
 use lib.ListN.{take, drop, replicate}
+use Rattle.wire.specs.Bytes.{pick, has}
 use Rattle.models.specs.declared.Afi.{Afi}
 use Rattle.models.specs.declared.Afi.the-variants.{Ipv4, Ipv6}
 use Rattle.models.specs.declared.IpAddr.{IpAddr}
+
+-- sixteen bytes at every place: zeros where not all of them are there
+abbrev pub sixteenAt : List ℕ → ℕ → List ℕ
+sixteenAt s at = pick (has 16 s at) (take 16 (drop at s)) (replicate 16 0)
 
 -- the last four of sixteen octets, and zeros before them
 abbrev pub lastFour : List ℕ → List ℕ

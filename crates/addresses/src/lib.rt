@@ -1,11 +1,27 @@
-// The address that a field of sixteen bytes shows.
+// A field of sixteen bytes, and the address that it shows.
 use models::Afi;
 use models::IpAddr;
 ghost use mathlib.Core.Path.{_≡_};
 ghost use Prim.Native.Nat.{_+_, _≤_};
 ghost use lib.ListN.{drop, replicate};
 ghost use lib.Seq.{paste};
-ghost use Rattle.addresses.specs.Address.{shownIp, routerIp};
+ghost use Rattle.addresses.specs.Address.{sixteenAt, shownIp, routerIp};
+
+// The sixteen bytes at a place, as an address has them; all zero where they are not all there.
+pub fn sixteen_at(s: &[u8], at: usize) -> [u8; 16]
+    ensures { λ r. ⌜ r ≡ sixteenAt (now (s .entry)) at ⌝ }
+{
+    let mut bytes = [0; 16];
+    if wire::left(s, at) < 16 {
+        return bytes;
+    }
+    let mut i = 0;
+    while i < 16 {
+        bytes[i] = s[at + i];
+        i += 1;
+    }
+    bytes
+}
 
 // The address that sixteen bytes of a BMP message show: an IPv4 address stands in the last four (RFC 7854, sections 4.2 and 4.10).
 pub fn shown_ip(afi: Afi, octets: [u8; 16]) -> IpAddr

@@ -33,7 +33,7 @@ fn put_header(header: BmpCommonHeader, out: &mut [u8])
     ensures { λ _. ⌜ now (out .exit) ≡ sets (now (out .entry)) 0 (bytesOf header) ⌝ }
 {
     let msg_type = header.msg_type;
-    put_numbers::put_u8(out, 0, header.version);
-    put_numbers::put_u32(out, 1, header.msg_len);
-    put_numbers::put_u8(out, 5, common_header::kind_of(msg_type));
+    numbers_writer::put_u8(out, 0, header.version);
+    numbers_writer::put_u32(out, 1, header.msg_len);
+    numbers_writer::put_u8(out, 5, common_header::kind_of(msg_type));
 }

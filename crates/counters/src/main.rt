@@ -7,7 +7,7 @@ use libc::STDIN_FILENO;
 use libc::STDOUT_FILENO;
 use models::Afi;
 use models::IpAddr;
-use peer::BmpPerPeerHeader;
+use per_peer_record::BmpPerPeerHeader;
 use splitter::SplitAnswer;
 use stats_data::StatsData;
 use stats_report::COUNTER_PLACES;

@@ -10,7 +10,7 @@ use Rattle.wire.specs.Bytes.{pick}
 use Rattle.wire.specs.Lacking.{total, FirstLacking}
 use Rattle.wire.specs.declared.Refusal.{Refusal}
 use Rattle.wire.proofs.Determined.{determined}
-use Rattle.layout.specs.Layout.{firstCut, cutIn, sixteenAt}
+use Rattle.layout.specs.Layout.{firstCut, cutIn}
 
 -- A run of fields that does not lie whole in the input is cut at the first field that lacks bytes.
 pub first-lacking : (ws : List ℕ) (at n : ℕ) → at ≤ n → n < at + total ws → FirstLacking ws at n (firstCut ws at n)
@@ -45,6 +45,3 @@ first-lacking (w ∷ ws) at n inside short = go (leb (at + w) n) refl (first-lac
 -- ---- any two answers that the contracts allow are equal
 pub cut-in-determined : (ws : List ℕ) (at n : ℕ) (r q : Refusal) → r ≡ cutIn ws at n → q ≡ cutIn ws at n → r ≡ q
 cut-in-determined ws at n r q = determined
-
-pub sixteen-at-determined : (s : List ℕ) (at : ℕ) (r q : List ℕ) → r ≡ sixteenAt s at → q ≡ sixteenAt s at → r ≡ q
-sixteen-at-determined s at r q = determined

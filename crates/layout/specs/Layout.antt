@@ -2,8 +2,7 @@
 use Prim.Native.Nat.{ℕ, _+_}
 use mathlib.Core.List.{List, [], _∷_}
 use lib.Dec.{leb}
-use lib.ListN.{take, drop, replicate}
-use Rattle.wire.specs.Bytes.{pick, has}
+use Rattle.wire.specs.Bytes.{pick}
 use Rattle.wire.specs.Refusal.{cutAt}
 use Rattle.wire.specs.declared.Refusal.{Refusal}
 
@@ -15,7 +14,3 @@ firstCut (w ∷ ws) at n = pick (leb (at + w) n) (firstCut ws (at + w) n) at
 
 abbrev pub cutIn : List ℕ → ℕ → ℕ → Refusal
 cutIn ws at n = cutAt (firstCut ws at n)
-
--- sixteen bytes at every place: zeros where not all of them are there
-abbrev pub sixteenAt : List ℕ → ℕ → List ℕ
-sixteenAt s at = pick (has 16 s at) (take 16 (drop at s)) (replicate 16 0)

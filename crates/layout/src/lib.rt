@@ -1,8 +1,8 @@
-// What fixed layouts share: where a run of fields is cut, and sixteen bytes at a place.
+// Where a run of fields of fixed widths is cut.
 use wire::Need;
 use wire::Refusal;
 ghost use mathlib.Core.Path.{_≡_};
-ghost use Rattle.layout.specs.Layout.{cutIn, sixteenAt};
+ghost use Rattle.layout.specs.Layout.{cutIn};
 
 // The Cut of a run of fields of these widths, the first at a place, in an input of this length. It is asked for where a field lacks
 // bytes; where none does, the Cut stands at the end of the run.
@@ -21,20 +21,4 @@ pub fn cut_in(widths: &[usize], at: usize, there: usize) -> Refusal
         }
     }
     wire::refusal_at(wire::CUT, place)
-}
-
-// The sixteen bytes at a place, as an address has them; all zero where they are not all there.
-pub fn sixteen_at(s: &[u8], at: usize) -> [u8; 16]
-    ensures { λ r. ⌜ r ≡ sixteenAt (now (s .entry)) at ⌝ }
-{
-    let mut bytes = [0; 16];
-    if wire::left(s, at) < 16 {
-        return bytes;
-    }
-    let mut i = 0;
-    while i < 16 {
-        bytes[i] = s[at + i];
-        i += 1;
-    }
-    bytes
 }

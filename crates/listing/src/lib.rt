@@ -145,6 +145,6 @@ fn put_field(out: &mut [u8], at: usize, n: usize, after: u8) -> usize
     ensures { λ _. ⌜ Puts (now (out .entry)) at (decimal n ++ (after ∷ [])) (now (out .exit)) ⌝ }
 {
     let next = at + decimal::put_decimal(out, at, n);
-    put_numbers::put_u8(out, next, after);
+    numbers_writer::put_u8(out, next, after);
     next + 1
 }

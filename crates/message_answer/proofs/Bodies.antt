@@ -9,12 +9,12 @@ use Rattle.wire.specs.Exactly.{Readable}
 use Rattle.models.specs.declared.Afi.{Afi}
 use Rattle.common_header.specs.declared.BmpMsgType.{BmpMsgType}
 use Rattle.common_header.specs.declared.BmpMsgType.the-variants.{RouteMonitoring, StatisticsReport, PeerDownNotification, PeerUpNotification, RouteMirroringMessage}
-use Rattle.peer.specs.Header.{asnLengthOf}
+use Rattle.per_peer_record.specs.Header.{asnLengthOf}
 use Rattle.per_peer_header.specs.Grammar as Header
 use Rattle.per_peer_header.specs.Grammar.{AddressField, ipv4, ipv6, unused}
 use Rattle.per_peer_header.specs.Shown.{shownAddress, shownHeader}
 use Rattle.peer_up_notification.specs.Grammar as Up
-use Rattle.exactly.proofs.Promises.{monitoring-exactly, statistics-exactly, peer-down-exactly, peer-up-exactly, mirroring-exactly}
+use Rattle.reader_promises.proofs.Promises.{monitoring-exactly, statistics-exactly, peer-down-exactly, peer-up-exactly, mirroring-exactly}
 use Rattle.message_answer.specs.Grammar.{familyOf, Body, route-monitoring, statistics, peer-down, peer-up, route-mirroring}
 use Rattle.message_answer.specs.Answer.{bodyNumber}
 use Rattle.message_answer.specs.declared.PeerBody.{PeerBody}

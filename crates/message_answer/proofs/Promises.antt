@@ -12,7 +12,7 @@ use Rattle.common_header.specs.declared.BmpMsgType.the-variants.{RouteMonitorin
 use Rattle.per_peer_header.specs.Grammar as Header
 use Rattle.initiation_message.specs.declared.InitiationAnswer.{InitiationAnswer}
 use Rattle.termination_message.specs.declared.TerminationAnswer.{TerminationAnswer}
-use Rattle.exactly.proofs.Promises.{initiation-exactly, termination-exactly}
+use Rattle.reader_promises.proofs.Promises.{initiation-exactly, termination-exactly}
 use Rattle.message_answer.specs.Grammar.{Body, Message, initiation, termination, of-a-peer, HasReading, GoodExactly}
 use Rattle.message_answer.specs.Answer.{peerNumber, answerOf}
 use Rattle.message_answer.specs.declared.PeerBody.{PeerBody}

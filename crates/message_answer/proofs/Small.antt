@@ -6,12 +6,12 @@ use lib.Dec.{eqb}
 use lib.ListN.{drop}
 use Rattle.wire.specs.Number as Number
 use Rattle.wire.proofs.Refuses.{pick-in, numbers-below}
-use Rattle.peer.specs.Header.{afiOf, asnLengthOf}
-use Rattle.peer.specs.declared.BmpPerPeerHeader.{BmpPerPeerHeader}
+use Rattle.per_peer_record.specs.Header.{afiOf, asnLengthOf}
+use Rattle.per_peer_record.specs.declared.BmpPerPeerHeader.{BmpPerPeerHeader}
 use Rattle.per_peer_header.specs.Read.{readPerPeerHeader}
 use Rattle.initiation_message.specs.Read.{readInitiation}
 use Rattle.termination_message.specs.Read.{readTermination}
-use Rattle.exactly.proofs.Promises.{per-peer-header-refuses, initiation-refuses, termination-refuses, monitoring-refuses, mirroring-refuses, statistics-refuses, peer-down-refuses, peer-up-refuses}
+use Rattle.reader_promises.proofs.Promises.{per-peer-header-refuses, initiation-refuses, termination-refuses, monitoring-refuses, mirroring-refuses, statistics-refuses, peer-down-refuses, peer-up-refuses}
 use Rattle.message_answer.specs.Answer.{bodyNumber, peerNumber}
 use Rattle.message_answer.specs.declared.PeerBody.{PeerBody}
 use Rattle.message_answer.specs.declared.PeerBody.the-variants.{Monitoring, Statistics, Down, Up, Mirroring}

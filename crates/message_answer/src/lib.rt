@@ -1,9 +1,9 @@
 // The number that a whole message gets, of the first of its parts that is refused.
 use common_header::BmpMsgType;
 use models::AsnLength;
-use peer::BmpPerPeerHeader;
 use peer_down_notification::PeerDownAnswer;
-use peer_type::BmpPeerType;
+use per_peer_record::BmpPerPeerHeader;
+use per_peer_type::BmpPeerType;
 use route_monitoring::RouteMonitoringAnswer;
 ghost use mathlib.Core.Path.{_≡_};
 ghost use Rattle.route_monitoring.specs.Shown as MonitoringShown;

@@ -8,12 +8,11 @@ use borrow.Author.Tests.{ltb-true}
 use lib.Dec.{eqb, ltb}
 use lib.ListN.{length}
 use Rattle.wire.specs.Number as Number
-use Rattle.wire.specs.Bytes.{pick, numberAt}
+use Rattle.wire.specs.Bytes.{pick, numberAt, flag}
 use Rattle.wire.specs.Refusal.{refusal}
 use Rattle.wire.proofs.Bytes.{number-none}
 use Rattle.wire.specs.Lacking.{total}
 use Rattle.layout.specs.Layout.{cutIn}
-use Rattle.peer_type.specs.Peer.{flag}
 use Rattle.openbmp.specs.Grammar.{widths}
 use Rattle.openbmp.specs.Shown.{shown, refused}
 use Rattle.openbmp.specs.Read.{partsOf, cut, afterRowCount, afterGroupLength, afterAdminLength, afterType, afterFlags, afterVersions, afterMagic, readOpenBmpHeader}

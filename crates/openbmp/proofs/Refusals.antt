@@ -6,10 +6,9 @@ use Prim.Native.Nat.{ℕ, _+_}
 use lib.Dec.{ltb, eqb}
 use lib.ListN.{length}
 use Rattle.wire.specs.Number as Number
-use Rattle.wire.specs.Bytes.{value, numberAt, none}
+use Rattle.wire.specs.Bytes.{value, numberAt, none, flag}
 use Rattle.wire.specs.Refuses.{Refuses}
 use Rattle.wire.proofs.Refuses.{pick-in, Answered, is-good, is-empty, one-of, GivesEach, gives-too-long, refuses-from, bytes-are}
-use Rattle.peer_type.specs.Peer.{flag}
 use Rattle.openbmp.specs.Read.{afterRowCount, afterGroupLength, afterAdminLength, afterType, afterFlags, afterVersions, afterMagic, readOpenBmpHeader, numbers, reader}
 
 answered : (s : List ℕ) → Answered reader (readOpenBmpHeader s)

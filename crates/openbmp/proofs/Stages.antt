@@ -8,10 +8,9 @@ use borrow.Author.Tests.{eqb-true, eq-eqb, ltb-false, le-ltb}
 use lib.Dec.{eqb, ltb}
 use lib.ListN.{length}
 use Rattle.wire.specs.Number as Number
-use Rattle.wire.specs.Bytes.{pick, numAt, numberAt}
+use Rattle.wire.specs.Bytes.{pick, numAt, numberAt, flag}
 use Rattle.wire.specs.Refusal.{refusal}
 use Rattle.wire.proofs.Bytes.{number-is}
-use Rattle.peer_type.specs.Peer.{flag}
 use Rattle.openbmp.specs.Shown.{shown, refused}
 use Rattle.openbmp.specs.Read.{partsOf, cut, afterRowCount, afterGroupLength, afterAdminLength, afterType, afterFlags, afterVersions, afterMagic, readOpenBmpHeader}
 use Rattle.openbmp.specs.declared.OpenBmpAnswer.{OpenBmpAnswer}

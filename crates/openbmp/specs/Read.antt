@@ -7,13 +7,12 @@ use mathlib.Core.List.{List, [], _∷_}
 use lib.Dec.{ltb, eqb}
 use lib.ListN.{length, take, drop}
 use Rattle.wire.specs.Number as Number
-use Rattle.wire.specs.Bytes.{pick, numAt, numberAt}
+use Rattle.wire.specs.Bytes.{pick, numAt, numberAt, flag}
 use Rattle.wire.specs.Refusal.{refusal}
 use Rattle.wire.specs.Exactly.{Reader}
 use Rattle.layout.specs.Layout.{cutIn}
 use Rattle.models.specs.declared.Afi.{Afi}
 use Rattle.models.specs.declared.Afi.the-variants.{Ipv4, Ipv6}
-use Rattle.peer_type.specs.Peer.{flag}
 use Rattle.openbmp.specs.Grammar.{widths, RouterIp, ipv4, ipv6, Reading, grammar}
 use Rattle.openbmp.specs.Told as Told
 use Rattle.openbmp.specs.Shown.{shown, refused}

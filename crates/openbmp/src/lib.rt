@@ -167,7 +167,7 @@ fn read_header(s: &[u8], admin: usize, group: usize) -> OpenBmpAnswer
         },
         router_ip: addresses::router_ip(
             family(numbers::u8_at(s, 12)),
-            layout::sixteen_at(s, 56 + admin),
+            addresses::sixteen_at(s, 56 + admin),
         ),
         router_group: View {
             place: 74 + admin,

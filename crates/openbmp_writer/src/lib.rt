@@ -100,13 +100,13 @@ fn put_front(header_len: u16, msg_len: u32, flags: u8, out: &mut [u8])
     requires { ⌜ 14 ≤ length (now out) ⌝ }
     ensures { λ _. ⌜ now (out .exit) ≡ putAt (now (out .entry)) 0 (frontBytes «header_len» «msg_len» flags) ⌝ }
 {
-    put_numbers::put_u32(out, 0, openbmp::MAGIC_NUMBER);
-    put_numbers::put_u8(out, 4, openbmp::MAJOR_VERSION);
-    put_numbers::put_u8(out, 5, openbmp::MINOR_VERSION);
-    put_numbers::put_u16(out, 6, header_len);
-    put_numbers::put_u32(out, 8, msg_len);
-    put_numbers::put_u8(out, 12, flags);
-    put_numbers::put_u8(out, 13, openbmp::RAW_BMP);
+    numbers_writer::put_u32(out, 0, openbmp::MAGIC_NUMBER);
+    numbers_writer::put_u8(out, 4, openbmp::MAJOR_VERSION);
+    numbers_writer::put_u8(out, 5, openbmp::MINOR_VERSION);
+    numbers_writer::put_u16(out, 6, header_len);
+    numbers_writer::put_u32(out, 8, msg_len);
+    numbers_writer::put_u8(out, 12, flags);
+    numbers_writer::put_u8(out, 13, openbmp::RAW_BMP);
 }
 
 fn flags_of(afi: Afi) -> u8
@@ -123,8 +123,8 @@ fn put_time(seconds: u32, microseconds: u32, out: &mut [u8])
     ensures { λ _. ⌜ now (out .exit) ≡ putAt (now (out .entry)) 14 (timeBytes seconds microseconds) ⌝ }
 {
     let no_hash = [0u8; 16];
-    put_numbers::put_u32(out, 14, seconds);
-    put_numbers::put_u32(out, 18, microseconds);
+    numbers_writer::put_u32(out, 14, seconds);
+    numbers_writer::put_u32(out, 18, microseconds);
     writing::put_bytes(out, 22, &no_hash);
 }
 
@@ -141,7 +141,7 @@ fn put_rest(octets: [u8; 16], admin: &[u8], group: &[u8], out: &mut [u8])
     writing::put_bytes(out, 40 + a, &no_hash);
     writing::put_bytes(out, 56 + a, &octets);
     put_counted(group, 72 + a, out);
-    put_numbers::put_u32(out, 74 + a + g, 1);
+    numbers_writer::put_u32(out, 74 + a + g, 1);
 }
 
 fn put_counted(bytes: &[u8], at: usize, out: &mut [u8])
@@ -149,6 +149,6 @@ fn put_counted(bytes: &[u8], at: usize, out: &mut [u8])
     requires { ⌜ at + (2 + length (now bytes)) ≤ length (now out) ⌝ }
     ensures { λ _. ⌜ now (out .exit) ≡ putAt (now (out .entry)) at (counted (now (bytes .entry))) ⌝ }
 {
-    put_numbers::put_u16(out, at, bytes.len() as u16);
+    numbers_writer::put_u16(out, at, bytes.len() as u16);
     writing::put_bytes(out, at + 2, bytes);
 }

@@ -29,7 +29,7 @@ pub fn write_peer_down_notification(
     let WriteAnswer::Written(_) = answer else {
         return answer;
     };
-    put_numbers::put_u8(out, 0, reason.number());
+    numbers_writer::put_u8(out, 0, reason.number());
     writing::put_bytes(out, 1, part);
     answer
 }

@@ -15,7 +15,7 @@ use Rattle.wire.specs.declared.View.{View}
 use Rattle.wire.proofs.Cuts.{CutsIn, cuts-in, pick-by, value-lacks, walk-cut}
 use Rattle.layout.proofs.Promises.{first-lacking}
 use Rattle.models.specs.declared.Afi.{Afi}
-use Rattle.peer_type.specs.declared.BmpPeerType.{BmpPeerType}
+use Rattle.per_peer_type.specs.declared.BmpPeerType.{BmpPeerType}
 use Rattle.peer_up_notification.specs.Grammar.{widths}
 use Rattle.peer_up_notification.specs.Shown.{sentAt}
 use Rattle.peer_up_notification.specs.Read.{openAt, frontOf, step, widthsIn, kit, withTlvs, withReceived, withSent, readPeerUp}

@@ -11,7 +11,7 @@ use Rattle.wire.specs.declared.Refusal.{Refusal}
 use Rattle.cursor.specs.declared.Cursor.{Cursor}
 use Rattle.wire.proofs.Tlv.{tlv-length, tlv-there, tlv-join, tlv-rest, tlv-parts}
 use Rattle.wire.proofs.Walk.{Takes, Faults, Laws, Tails, onwards, TurnTo, turn-to, onwards-bad, resume-stop}
-use Rattle.peer_type.specs.declared.BmpPeerType.{BmpPeerType}
+use Rattle.per_peer_type.specs.declared.BmpPeerType.{BmpPeerType}
 use Rattle.peer_up_notification.specs.Grammar.{ReadTlv, GoodTail, places}
 use Rattle.peer_up_notification.specs.Shown.{Front, shownTlv, messageOf, goodAnswer}
 use Rattle.peer_up_notification.specs.Read.{step, stepAt, kit, warningsIn, withTlvs}

@@ -20,7 +20,7 @@ use Rattle.wire.proofs.Bytes.{bytes-append, bytes-be, bytes-take, bytes-drop, v
 use Rattle.wire.proofs.Views.{length-part, viewed-part, octets-part}
 use Rattle.layout.specs.Layout.{cutIn}
 use Rattle.models.specs.declared.Afi.{Afi}
-use Rattle.peer_type.specs.declared.BmpPeerType.{BmpPeerType}
+use Rattle.per_peer_type.specs.declared.BmpPeerType.{BmpPeerType}
 use Rattle.peer_up_notification.specs.Grammar.{widths, Message, messageBytes, GoodMessage}
 use Rattle.peer_up_notification.specs.Shown.{sentAt, refusedAnswer}
 use Rattle.peer_up_notification.specs.Told.{openOf}

@@ -17,8 +17,8 @@ use Rattle.wire.specs.declared.View.{View}
 use Rattle.models.specs.Warnings.{countOnes}
 use Rattle.models.specs.declared.Afi.{Afi}
 use Rattle.models.specs.declared.Afi.the-variants.{Ipv4, Ipv6}
-use Rattle.peer_type.specs.Peer.{kindOf, isLocRib}
-use Rattle.peer_type.specs.declared.BmpPeerType.{BmpPeerType}
+use Rattle.per_peer_type.specs.Peer.{kindOf, isLocRib}
+use Rattle.per_peer_type.specs.declared.BmpPeerType.{BmpPeerType}
 use Rattle.peer_up_notification.specs.Grammar.{Reading, join, Good, grammar, places, frontParts, joinMessages, widths, skippedFor, addressFor}
 use Rattle.peer_up_notification.specs.Warnings.{headOf, some, badTableName, noTableName, warnings}
 use Rattle.peer_up_notification.specs.Shown.{kindOf as numberOf, names, typeOf, infoOf, shown, refusedAnswer, tlvsAt}

@@ -17,7 +17,7 @@ use Rattle.wire.specs.declared.View.{View}
 use Rattle.wire.proofs.Walk.{BadIn, faults-in, read-too-many}
 use Rattle.wire.proofs.Refuses.{pick-in, Answered, is-empty, one-of, GivesEach, gives-too-long, walk-answered, refuses-from, bytes-are}
 use Rattle.models.specs.declared.Afi.{Afi}
-use Rattle.peer_type.specs.declared.BmpPeerType.{BmpPeerType}
+use Rattle.per_peer_type.specs.declared.BmpPeerType.{BmpPeerType}
 use Rattle.peer_up_notification.specs.Grammar.{Reading, join, Good, places}
 use Rattle.peer_up_notification.specs.Shown.{refusedAnswer, sentAt, receivedAt, tlvsAt}
 use Rattle.peer_up_notification.specs.Read.{openAt, frontOf, step, kit, withTlvs, withReceived, withSent, readPeerUp, numbers, reader}

@@ -20,9 +20,9 @@ use Rattle.wire.proofs.Rfc.{information-put, information-good, join-together, e
 use Rattle.wire.proofs.Views.{octets-zeros}
 use Rattle.wire.proofs.Exactly.{shows-good}
 use Rattle.models.specs.Rfc.{Address, ipv4, ipv6, fieldOf, familyOf, AddressFits}
-use Rattle.peer_type.specs.Peer.{kindOf}
-use Rattle.peer_type.specs.declared.BmpPeerType.{BmpPeerType}
-use Rattle.peer_type.specs.declared.BmpPeerType.the-variants.{LocalRib}
+use Rattle.per_peer_type.specs.Peer.{kindOf}
+use Rattle.per_peer_type.specs.declared.BmpPeerType.{BmpPeerType}
+use Rattle.per_peer_type.specs.declared.BmpPeerType.the-variants.{LocalRib}
 use Rattle.peer_up_notification.specs.Grammar.{GoodMessage, join, skippedFor, addressFor, ReadTlv, Good, places}
 use Rattle.peer_up_notification.specs.Warnings.{Head, headOf, some, isTableName, badTableName, warnings}
 use Rattle.peer_up_notification.specs.Read.{reader}

@@ -15,10 +15,10 @@ use Rattle.wire.specs.Walk.{readFrom}
 use Rattle.wire.proofs.Bytes.{value-be, number-is}
 use Rattle.wire.proofs.Tlv.{tlv-viewed}
 use Rattle.wire.proofs.Walk.{read-complete, each-at}
-use Rattle.layout.specs.Layout.{sixteenAt}
+use Rattle.addresses.specs.Address.{sixteenAt}
 use Rattle.models.specs.declared.Afi.{Afi}
 use Rattle.models.specs.declared.Afi.the-variants.{Ipv4, Ipv6}
-use Rattle.peer_type.specs.declared.BmpPeerType.{BmpPeerType}
+use Rattle.per_peer_type.specs.declared.BmpPeerType.{BmpPeerType}
 use Rattle.peer_up_notification.specs.Grammar.{messageBytes, joinTlvs, join, skippedFor, addressFor, Reading, Good, Fits}
 use Rattle.peer_up_notification.specs.Warnings.{Head, warningsOf}
 use Rattle.peer_up_notification.specs.Shown.{entry, infoOf, sentAt, receivedAt, tlvsAt, shownAddress, shownFront, goodAnswer, shown}

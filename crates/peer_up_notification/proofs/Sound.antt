@@ -22,7 +22,7 @@ use Rattle.wire.proofs.Walk.{read-sound, read-fault}
 use Rattle.wire.proofs.Walk as Walk
 use Rattle.layout.specs.Layout.{cutIn}
 use Rattle.models.specs.declared.Afi.{Afi}
-use Rattle.peer_type.specs.declared.BmpPeerType.{BmpPeerType}
+use Rattle.per_peer_type.specs.declared.BmpPeerType.{BmpPeerType}
 use Rattle.peer_up_notification.specs.Grammar.{widths, join, skippedFor, Reading, Good, Fits}
 use Rattle.peer_up_notification.specs.Shown.{sentAt, refusedAnswer}
 use Rattle.peer_up_notification.specs.Told.{openOf}

@@ -11,7 +11,7 @@ use Rattle.wire.specs.Exactly.{Told}
 use Rattle.wire.proofs.Tlv.{tlv-viewed}
 use Rattle.wire.proofs.Walk.{each-at, items-told, tail-behind, end-within}
 use Rattle.models.specs.declared.Afi.{Afi}
-use Rattle.peer_type.specs.declared.BmpPeerType.{BmpPeerType}
+use Rattle.per_peer_type.specs.declared.BmpPeerType.{BmpPeerType}
 use Rattle.peer_up_notification.specs.Grammar.{messageBytes, joinTlvs, skippedFor, ReadTlv, join, places}
 use Rattle.peer_up_notification.specs.Shown.{entry, zeroTlv, receivedAt, tlvsAt}
 use Rattle.peer_up_notification.specs.Told.{openOf, toldTlv}

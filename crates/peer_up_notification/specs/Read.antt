@@ -16,11 +16,11 @@ use Rattle.wire.specs.Walk.{stop, bad, item, from, Kit, Out, good, refused, rea
 use Rattle.wire.specs.declared.Refusal.{Refusal}
 use Rattle.wire.specs.declared.View.{View}
 use Rattle.wire.specs.Exactly.{Reader}
-use Rattle.layout.specs.Layout.{cutIn, sixteenAt}
-use Rattle.addresses.specs.Address.{shownIp}
+use Rattle.layout.specs.Layout.{cutIn}
+use Rattle.addresses.specs.Address.{sixteenAt, shownIp}
 use Rattle.models.specs.declared.Afi.{Afi}
-use Rattle.peer_type.specs.Peer.{kindOf, isLocRib}
-use Rattle.peer_type.specs.declared.BmpPeerType.{BmpPeerType}
+use Rattle.per_peer_type.specs.Peer.{kindOf, isLocRib}
+use Rattle.per_peer_type.specs.declared.BmpPeerType.{BmpPeerType}
 use Rattle.peer_up_notification.specs.Grammar.{widths, places, grammar}
 use Rattle.peer_up_notification.specs.Warnings.{Head, some, isTableName, badTableName, warningsOf}
 use Rattle.peer_up_notification.specs.Told as Told

@@ -11,7 +11,7 @@ use Rattle.wire.specs.declared.View.{View}
 use Rattle.models.specs.Address.{unspecified}
 use Rattle.models.specs.declared.Afi.{Afi}
 use Rattle.models.specs.declared.IpAddr.{IpAddr}
-use Rattle.peer_type.specs.declared.BmpPeerType.{BmpPeerType}
+use Rattle.per_peer_type.specs.declared.BmpPeerType.{BmpPeerType}
 use Rattle.peer_up_notification.specs.Grammar.{skippedFor, Reading, places}
 use Rattle.peer_up_notification.specs.Warnings.{warnings}
 use Rattle.peer_up_notification.specs.declared.PeerUpTlvType.{PeerUpTlvType}

@@ -5,8 +5,8 @@ use mathlib.Core.List.{List, [], _∷_, map}
 use lib.Dec.{eqb, ltb}
 use Rattle.wire.specs.Bytes.{pick}
 use Rattle.wire.specs.Tlv.{Tlv}
-use Rattle.peer_type.specs.Peer.{kindOf, isLocRib}
-use Rattle.peer_type.specs.declared.BmpPeerType.{BmpPeerType}
+use Rattle.per_peer_type.specs.Peer.{kindOf, isLocRib}
+use Rattle.per_peer_type.specs.declared.BmpPeerType.{BmpPeerType}
 use Rattle.peer_up_notification.specs.Grammar.{Reading}
 
 -- a TLV's type and length, by which it is judged

@@ -2,7 +2,7 @@
 use cursor::Cursor;
 use models::Afi;
 use models::IpAddr;
-use peer_type::BmpPeerType;
+use per_peer_type::BmpPeerType;
 use tlv_head::TlvHead;
 use wire::Need;
 use wire::Refusal;
@@ -173,7 +173,7 @@ pub fn parse_peer_up_notification(s: &[u8], afi: Afi, peer_type: BmpPeerType) ->
         stop: stop,
         warnings: warnings_of(peer_type, names),
         message: PeerUpNotification {
-            local_addr: addresses::shown_ip(afi, layout::sixteen_at(s, 0)),
+            local_addr: addresses::shown_ip(afi, addresses::sixteen_at(s, 0)),
             local_port: numbers::u16_at(s, 16),
             remote_port: numbers::u16_at(s, 18),
             sent_open: sent_open,
@@ -279,7 +279,7 @@ fn no_tlvs() -> [PeerUpNotificationTlv; wire::TLV_PLACES]
 fn warnings_of(peer_type: BmpPeerType, names: TableNames) -> u32
     ensures { λ r. ⌜ r ≡ wordOf «peer_type» names ⌝ }
 {
-    if peer_type.number() != peer_type::LOCAL_RIB {
+    if peer_type.number() != per_peer_type::LOCAL_RIB {
         return 0;
     }
     word_of(names.bad, names.some)

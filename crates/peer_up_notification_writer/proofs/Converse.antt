@@ -23,7 +23,7 @@ use Rattle.tlv_table.proofs.Written.{good-part}
 use Rattle.addresses.specs.Address.{shownIp}
 use Rattle.models.specs.declared.IpAddr.{IpAddr}
 use Rattle.models.proofs.Promises.{equals-is-equality}
-use Rattle.peer_type.specs.declared.BmpPeerType.{BmpPeerType}
+use Rattle.per_peer_type.specs.declared.BmpPeerType.{BmpPeerType}
 use Rattle.peer_up_notification.specs.Grammar.{messageBytes, ReadTlv, skippedFor, Reading, join, places}
 use Rattle.peer_up_notification.specs.Shown.{infoOf, zeroTlv, entry, tlvsAt, shownAddress, shown, kept}
 use Rattle.peer_up_notification.specs.Told.{openOf}

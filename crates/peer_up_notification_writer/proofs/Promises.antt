@@ -13,7 +13,7 @@ use Rattle.writing.specs.declared.WriteAnswer.{WriteAnswer}
 use Rattle.writing.specs.declared.WriteAnswer.the-variants.{Written}
 use Rattle.writing.proofs.Answers.{front, wrote-determined}
 use Rattle.writing.proofs.Table.{length-parts}
-use Rattle.peer_type.specs.declared.BmpPeerType.{BmpPeerType}
+use Rattle.per_peer_type.specs.declared.BmpPeerType.{BmpPeerType}
 use Rattle.peer_up_notification.specs.Shown.{kept}
 use Rattle.peer_up_notification_writer.specs.Write.{writer, readingOf, bytesOf, writable, Typed}
 use Rattle.peer_up_notification_writer.specs.Unwritable.{Unwritable, TlvsTyped}

@@ -15,7 +15,7 @@ use Rattle.writing.proofs.Table.{length-joined, all-good, length-parts}
 use Rattle.writing.proofs.Trip.{table-same, end-sizes}
 use Rattle.tlv_table.proofs.Table.{bodied}
 use Rattle.tlv_table.proofs.Written.{part-good}
-use Rattle.peer_type.specs.declared.BmpPeerType.{BmpPeerType}
+use Rattle.per_peer_type.specs.declared.BmpPeerType.{BmpPeerType}
 use Rattle.peer_up_notification.specs.Grammar.{ReadTlv, skippedFor, Good}
 use Rattle.peer_up_notification.specs.Shown.{zeroTlv, entry, tlvsAt, shown, kept}
 use Rattle.peer_up_notification.specs.Read.{readPeerUp}

@@ -117,8 +117,8 @@ fn put_endpoints(out: &mut [u8], local_addr: IpAddr, local_port: u16, remote_por
 {
     let octets = local_addr.octets;
     writing::put_bytes(out, 0, &octets);
-    put_numbers::put_u16(out, 16, local_port);
-    put_numbers::put_u16(out, 18, remote_port);
+    numbers_writer::put_u16(out, 16, local_port);
+    numbers_writer::put_u16(out, 18, remote_port);
 }
 
 fn put_opens(out: &mut [u8], sent_open: View, received_open: View, buffer: &[u8])

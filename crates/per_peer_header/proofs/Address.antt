@@ -8,7 +8,7 @@ use lib.ListN.{take, drop}
 use Rattle.wire.specs.Bytes.{pick}
 use Rattle.addresses.specs.Address.{shownIp}
 use Rattle.models.specs.declared.Afi.the-variants.{Ipv4, Ipv6}
-use Rattle.peer_type.specs.Peer.{flagV, addressFamily}
+use Rattle.per_peer_type.specs.Peer.{flagV, addressFamily}
 use Rattle.per_peer_header.specs.Grammar.{ipv4, ipv6}
 use Rattle.per_peer_header.specs.Shown.{shownAddress}
 use Rattle.per_peer_header.specs.Read.{addressField}

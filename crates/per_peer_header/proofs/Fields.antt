@@ -11,8 +11,8 @@ use lib.ListN.{length, take, drop, length-append, length-drop, take-append-drop}
 use lib.Seq.{length-take-le, take-at, drop-at}
 use Rattle.wire.specs.Bytes.{pick, be, value, numAt, numberAt, Octets}
 use Rattle.wire.proofs.Bytes.{length-be, value-be, value-append, be-split, bytes-take, bytes-drop, number-is}
-use Rattle.layout.specs.Layout.{sixteenAt}
-use Rattle.peer_type.specs.Peer.{isLocRib, flagV, flagA}
+use Rattle.addresses.specs.Address.{sixteenAt}
+use Rattle.per_peer_type.specs.Peer.{isLocRib, flagV, flagA}
 use Rattle.per_peer_header.specs.Grammar.{AddressField, ipv4, ipv6, unused, AsField, as16, as32, addressBytes, asBytes, AddressFits, AsFits, Layout, ipv4-as16, ipv4-as32, ipv6-as16, ipv6-as32, loc-rib}
 use Rattle.per_peer_header.specs.Read.{addressField, asField}
 

@@ -15,7 +15,7 @@ use Rattle.wire.proofs.Bytes.{bytes-append}
 use Rattle.wire.proofs.Views.{octets-zeros}
 use Rattle.models.specs.Rfc.{Address, ipv4, ipv6, fieldOf, familyOf, AddressFits}
 use Rattle.times.specs.Time.{timeOf}
-use Rattle.peer_type.specs.Peer.{typeOf, flagV, flagA}
+use Rattle.per_peer_type.specs.Peer.{typeOf, flagV, flagA}
 use Rattle.per_peer_header.specs.Grammar.{Reading, join, Good}
 use Rattle.per_peer_header.specs.Warnings.{warnings}
 use Rattle.per_peer_header.specs.Shown.{shown, shownAddress, shownAsn}

@@ -6,8 +6,8 @@ use native.Mathlib.Omega.{arith}
 use borrow.Author.Tests.{eq-eqb, ne-eqb}
 use Rattle.wire.specs.Exactly.{Told}
 use Rattle.times.specs.Time.{timeOf}
-use Rattle.peer_type.specs.Peer.{kindOf, typeOf}
-use Rattle.peer_type.proofs.Promises.{kind-told}
+use Rattle.per_peer_type.specs.Peer.{kindOf, typeOf}
+use Rattle.per_peer_type.proofs.Promises.{kind-told}
 use Rattle.per_peer_header.specs.Grammar.{AddressField, AsField, Reading, Skipped, addressSkipped, asSkipped, Good, Layout, ipv4-as16, ipv4-as32, ipv6-as16, ipv6-as32, loc-rib}
 use Rattle.per_peer_header.specs.Shown.{shownAddress, shownAsn, shownHeader}
 use Rattle.per_peer_header.specs.Told.{toldAddress, toldAs, toldHeader}

@@ -23,7 +23,7 @@ use mathlib.Core.List.{List, [], _∷_, _++_}
 use Rattle.wire.specs.Bytes.{be, Bytes, Octets}
 use Rattle.wire.specs.Parts.{joinAll}
 use Rattle.wire.specs.Exactly.{Grammar, noTable}
-use Rattle.peer_type.specs.Peer.{flagV, flagA}
+use Rattle.per_peer_type.specs.Peer.{flagV, flagA}
 
 pub data AddressField : Type 0 where
   ipv4 : (skipped address : List ℕ) → AddressField

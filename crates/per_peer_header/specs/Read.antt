@@ -8,7 +8,7 @@ use Rattle.wire.specs.Bytes.{pick, numAt, numberAt}
 use Rattle.wire.specs.Refusal.{refusal}
 use Rattle.wire.specs.Exactly.{Reader}
 use Rattle.layout.specs.Layout.{cutIn}
-use Rattle.peer_type.specs.Peer.{isLocRib, flagV, flagA}
+use Rattle.per_peer_type.specs.Peer.{isLocRib, flagV, flagA}
 use Rattle.per_peer_header.specs.Grammar.{widths, AddressField, ipv4, ipv6, unused, AsField, as16, as32, Reading, grammar}
 use Rattle.per_peer_header.specs.Shown.{shown, refused}
 use Rattle.per_peer_header.specs.Told.{told}

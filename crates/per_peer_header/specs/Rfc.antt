@@ -26,9 +26,9 @@ use Rattle.wire.specs.Bytes.{pick, be}
 use Rattle.models.specs.Rfc.{Address, ipv4, ipv6, fieldOf, familyOf, AddressFits}
 use Rattle.models.specs.Address.{unspecified}
 use Rattle.times.specs.Time.{timeOf}
-use Rattle.peer_type.specs.Peer.{typeOf}
-use Rattle.peer_type.specs.declared.BmpPeerType.the-variants.{LocalRib}
-use Rattle.peer.specs.declared.BmpPerPeerHeader.{BmpPerPeerHeader}
+use Rattle.per_peer_type.specs.Peer.{typeOf}
+use Rattle.per_peer_type.specs.declared.BmpPeerType.the-variants.{LocalRib}
+use Rattle.per_peer_record.specs.declared.BmpPerPeerHeader.{BmpPerPeerHeader}
 
 -- a flag by its weight
 abbrev pub bit : ℕ → Bool → ℕ

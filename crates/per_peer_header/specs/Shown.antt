@@ -11,9 +11,9 @@ use Rattle.models.specs.declared.Afi.the-variants.{Ipv4, Ipv6}
 use Rattle.models.specs.declared.IpAddr.{IpAddr}
 use Rattle.per_peer_header.specs.Grammar.{AddressField, ipv4, ipv6, unused, AsField, as16, as32, Reading}
 use Rattle.per_peer_header.specs.Warnings.{warnings}
-use Rattle.peer_type.specs.Peer.{typeOf}
-use Rattle.peer_type.specs.declared.BmpPeerType.the-variants.{Global}
-use Rattle.peer.specs.declared.BmpPerPeerHeader.{BmpPerPeerHeader}
+use Rattle.per_peer_type.specs.Peer.{typeOf}
+use Rattle.per_peer_type.specs.declared.BmpPeerType.the-variants.{Global}
+use Rattle.per_peer_record.specs.declared.BmpPerPeerHeader.{BmpPerPeerHeader}
 use Rattle.per_peer_header.specs.declared.PerPeerHeaderAnswer.{PerPeerHeaderAnswer}
 
 -- an IPv4 address with zeros before its four octets; of a Loc-RIB IPv4 zero, whatever stands in the field

@@ -8,8 +8,8 @@ use Rattle.wire.specs.declared.View.{View}
 use Rattle.models.specs.declared.Afi.{Afi}
 use Rattle.models.specs.declared.Afi.the-variants.{Ipv4, Ipv6}
 use Rattle.models.specs.declared.IpAddr.{IpAddr}
-use Rattle.peer_type.specs.Peer.{kindOf, isLocRib, flagA}
-use Rattle.peer.specs.declared.BmpPerPeerHeader.{BmpPerPeerHeader}
+use Rattle.per_peer_type.specs.Peer.{kindOf, isLocRib, flagA}
+use Rattle.per_peer_record.specs.declared.BmpPerPeerHeader.{BmpPerPeerHeader}
 use Rattle.per_peer_header.specs.Grammar.{AddressField, ipv4, ipv6, unused, AsField, as16, as32, Reading, Skipped}
 use Rattle.per_peer_header.specs.declared.PerPeerHeaderAnswer.{PerPeerHeaderAnswer}
 

@@ -4,7 +4,7 @@ use mathlib.Core.Bool.{Bool, true, not, _&&_}
 use mathlib.Core.List.{List, [], _∷_}
 use lib.Dec.{eqb}
 use Rattle.wire.specs.Bytes.{pick}
-use Rattle.peer_type.specs.Peer.{isLocRib}
+use Rattle.per_peer_type.specs.Peer.{isLocRib}
 use Rattle.per_peer_header.specs.Grammar.{Reading, addressBytes}
 
 abbrev pub zeroFilled : List ℕ → Bool

@@ -4,9 +4,9 @@ use models::AsnLength;
 use models::BgpIdentifier;
 use models::IpAddr;
 use models::PeerDistinguisher;
-use peer::BmpPerPeerHeader;
-use peer_type::BmpPeerType;
-use peer_type::PerPeerFlags;
+use per_peer_record::BmpPerPeerHeader;
+use per_peer_type::BmpPeerType;
+use per_peer_type::PerPeerFlags;
 use wire::Refusal;
 ghost use mathlib.Core.Path.{_≡_};
 ghost use mathlib.Core.Bool.{not, _&&_};
@@ -39,7 +39,7 @@ pub fn parse_per_peer_header(s: &[u8]) -> PerPeerHeaderAnswer
     if wire::LIMIT < s.len() {
         return refused(wire::refusal_at(wire::TOO_LONG, 0));
     }
-    if peer_type::LOCAL_RIB < numbers::u8_at(s, 0) {
+    if per_peer_type::LOCAL_RIB < numbers::u8_at(s, 0) {
         return refused(wire::refusal_at(wire::UNKNOWN_KIND, 0));
     }
     if s.len() < PER_PEER_HEADER {
@@ -86,12 +86,12 @@ fn read_header(s: &[u8]) -> PerPeerHeaderAnswer
     let kind = numbers::u8_at(s, 0);
     let flags = PerPeerFlags(numbers::u8_at(s, 1));
     let distinguisher = numbers::u64_at(s, 2);
-    let address = layout::sixteen_at(s, 10);
+    let address = addresses::sixteen_at(s, 10);
     let id = numbers::u32_at(s, 30);
     let seconds = numbers::u32_at(s, 34);
     let microseconds = numbers::u32_at(s, 38);
     let header = BmpPerPeerHeader {
-        peer_type: peer_type::type_of(kind),
+        peer_type: per_peer_type::type_of(kind),
         peer_flags: flags,
         peer_distinguisher: PeerDistinguisher(distinguisher),
         peer_ip: shown_address(kind, flags, address),
@@ -112,7 +112,7 @@ fn read_header(s: &[u8]) -> PerPeerHeaderAnswer
 fn shown_address(kind: u8, flags: PerPeerFlags, octets: [u8; 16]) -> IpAddr
     ensures { λ r. ⌜ r ≡ shownAddress (addressField kind (flags .0) octets) ⌝ }
 {
-    if kind == peer_type::LOCAL_RIB {
+    if kind == per_peer_type::LOCAL_RIB {
         return IpAddr::unspecified();
     }
     addresses::shown_ip(flags.address_family(), octets)
@@ -121,7 +121,7 @@ fn shown_address(kind: u8, flags: PerPeerFlags, octets: [u8; 16]) -> IpAddr
 fn shown_asn(kind: u8, flags: PerPeerFlags, number: u32) -> u32
     ensures { λ r. ⌜ r ≡ shownAsn (asField kind (flags .0) number) ⌝ }
 {
-    if kind == peer_type::LOCAL_RIB {
+    if kind == per_peer_type::LOCAL_RIB {
         return number;
     }
     match flags.asn_length() {
@@ -134,7 +134,7 @@ fn warnings_of(s: &[u8], kind: u8, id: u32, distinguisher: u64) -> u32
     requires { ⌜ 42 ≤ length (now s) ⌝ }
     ensures { λ r. ⌜ r ≡ warningsOf kind (take 16 (drop 10 (now (s .entry)))) id distinguisher ⌝ }
 {
-    if kind != peer_type::LOCAL_RIB {
+    if kind != per_peer_type::LOCAL_RIB {
         return 0;
     }
     word_of(is_zero_filled(s), lacks_router_id(id, distinguisher))

@@ -11,7 +11,7 @@ use Rattle.writing.specs.Write.{lengthOf, Wrote}
 use Rattle.writing.specs.declared.WriteAnswer.{WriteAnswer}
 use Rattle.writing.specs.declared.WriteAnswer.the-variants.{Written}
 use Rattle.writing.proofs.Answers.{front, wrote-determined}
-use Rattle.peer.specs.declared.BmpPerPeerHeader.{BmpPerPeerHeader}
+use Rattle.per_peer_record.specs.declared.BmpPerPeerHeader.{BmpPerPeerHeader}
 use Rattle.per_peer_header.specs.Shown.{shown}
 use Rattle.per_peer_header.specs.Read.{readPerPeerHeader}
 use Rattle.per_peer_header_writer.specs.Write.{readingOf, bytesOf, writable, Typed}

@@ -18,14 +18,14 @@ use Rattle.models.proofs.Unused.{not-zeros, none-shown, last-four-shown}
 use Rattle.models.proofs.Promises.{equals-is-equality}
 use Rattle.times.specs.Time.{NotItsWords}
 use Rattle.times.proofs.Promises.{is-timestamp-is-equality}
-use Rattle.peer_type.specs.Peer.{kindOf}
-use Rattle.peer_type.proofs.Flags.{named}
+use Rattle.per_peer_type.specs.Peer.{kindOf}
+use Rattle.per_peer_type.proofs.Flags.{named}
 use Rattle.per_peer_header.specs.Grammar.{ipv4, ipv6, unused, as16, as32}
 use Rattle.per_peer_header.specs.Shown.{shownAddress, shownAsn}
 use Rattle.per_peer_header.specs.Read.{addressField, asField}
 use Rattle.per_peer_header_writer.specs.Write.{writable, Typed}
 use Rattle.per_peer_header_writer.specs.Unwritable.{FamilyNotTheFlags, LocRibAddress, AsTooLarge, Unwritable, family-not-the-flags, unused-not-zero, loc-rib-address, as-too-large, not-its-words}
-use Rattle.peer.specs.declared.BmpPerPeerHeader.{BmpPerPeerHeader}
+use Rattle.per_peer_record.specs.declared.BmpPerPeerHeader.{BmpPerPeerHeader}
 
 abbrev ip : Afi → List ℕ → IpAddr
 ip afi octets = record { octets = octets; afi = afi }

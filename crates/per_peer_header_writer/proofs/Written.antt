@@ -16,12 +16,12 @@ use Rattle.writing.proofs.Sets.{put-then, put-fits, length-put}
 use Rattle.models.specs.declared.IpAddr.{IpAddr}
 use Rattle.models.proofs.Promises.{equals-is-equality}
 use Rattle.times.proofs.Promises.{is-timestamp-is-equality}
-use Rattle.peer_type.specs.Peer.{kindOf}
-use Rattle.peer_type.proofs.Flags.{named}
+use Rattle.per_peer_type.specs.Peer.{kindOf}
+use Rattle.per_peer_type.proofs.Flags.{named}
 use Rattle.per_peer_header.specs.Grammar.{AddressField, ipv4, ipv6, unused, AsField, as16, as32, addressBytes, asBytes, AddressFits, AsFits, Layout, ipv4-as16, ipv4-as32, ipv6-as16, ipv6-as32, loc-rib, Good}
 use Rattle.per_peer_header.specs.Shown.{shownAddress, shownAsn, shownHeader}
 use Rattle.per_peer_header_writer.specs.Write.{addressOf, asOf, blankAddress, blankAs, readingOf, bytesOf, addressFits, asFits, timeFits, writable, Typed}
-use Rattle.peer.specs.declared.BmpPerPeerHeader.{BmpPerPeerHeader}
+use Rattle.per_peer_record.specs.declared.BmpPerPeerHeader.{BmpPerPeerHeader}
 use Rattle.per_peer_header.proofs.Fields.{address-fits, as-fits, fields-layout}
 
 -- ---- what `writable` asks

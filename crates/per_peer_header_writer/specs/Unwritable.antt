@@ -7,8 +7,8 @@ use Rattle.models.specs.Address.{OneNotZero, UnusedNotZero}
 use Rattle.models.specs.declared.Afi.{Afi}
 use Rattle.models.specs.declared.Afi.the-variants.{Ipv4, Ipv6}
 use Rattle.times.specs.Time.{NotItsWords}
-use Rattle.peer_type.specs.Peer.{kindOf}
-use Rattle.peer.specs.declared.BmpPerPeerHeader.{BmpPerPeerHeader}
+use Rattle.per_peer_type.specs.Peer.{kindOf}
+use Rattle.per_peer_record.specs.declared.BmpPerPeerHeader.{BmpPerPeerHeader}
 
 -- types 0 to 2: an address not fitting its flags, of which 0x80 says IPv6
 abbrev pub FamilyNotTheFlags : ℕ → ℕ → Afi → Type 0

@@ -8,11 +8,11 @@ use lib.ListN.{replicate}
 use Rattle.wire.specs.Bytes.{Octets}
 use Rattle.models.specs.Address.{sameAddress}
 use Rattle.times.specs.Time.{isTimestamp}
-use Rattle.peer_type.specs.Peer.{kindOf}
+use Rattle.per_peer_type.specs.Peer.{kindOf}
 use Rattle.per_peer_header.specs.Grammar.{AddressField, ipv4, ipv6, unused, AsField, as16, as32, Reading, join}
 use Rattle.per_peer_header.specs.Shown.{shownAddress, shownAsn}
 use Rattle.per_peer_header.specs.Read.{addressField, asField}
-use Rattle.peer.specs.declared.BmpPerPeerHeader.{BmpPerPeerHeader}
+use Rattle.per_peer_record.specs.declared.BmpPerPeerHeader.{BmpPerPeerHeader}
 
 -- the fields of a header's own address and AS
 abbrev pub addressOf : BmpPerPeerHeader → AddressField

@@ -1,9 +1,9 @@
 // Writing the 42 bytes of a per-peer header (RFC 7854, section 4.2).
 use models::AsnLength;
 use models::IpAddr;
-use peer::BmpPerPeerHeader;
-use peer_type::PerPeerFlags;
 use per_peer_header::PER_PEER_HEADER;
+use per_peer_record::BmpPerPeerHeader;
+use per_peer_type::PerPeerFlags;
 use writing::WriteAnswer;
 ghost use mathlib.Core.Path.{_≡_};
 ghost use mathlib.Core.Bool.{true};
@@ -49,7 +49,7 @@ fn is_writable(header: BmpPerPeerHeader) -> bool
 fn address_fits(kind: u8, flags: PerPeerFlags, address: IpAddr) -> bool
     ensures { λ r. ⌜ r ≡ sameAddress (shownAddress (addressField kind (flags .0) (address .octets))) address ⌝ }
 {
-    if kind == peer_type::LOCAL_RIB {
+    if kind == per_peer_type::LOCAL_RIB {
         return IpAddr::unspecified().equals(address);
     }
     let octets = address.octets;
@@ -60,7 +60,7 @@ fn address_fits(kind: u8, flags: PerPeerFlags, address: IpAddr) -> bool
 fn asn_fits(kind: u8, flags: PerPeerFlags, asn: u32) -> bool
     ensures { λ r. ⌜ r ≡ eqb (shownAsn (asField kind (flags .0) asn)) asn ⌝ }
 {
-    if kind == peer_type::LOCAL_RIB {
+    if kind == per_peer_type::LOCAL_RIB {
         return true;
     }
     match flags.asn_length() {
@@ -78,12 +78,12 @@ fn put_header(header: BmpPerPeerHeader, out: &mut [u8])
     let peer_type = header.peer_type;
     let peer_ip = header.peer_ip;
     let octets = peer_ip.octets;
-    put_numbers::put_u8(out, 0, peer_type.number());
-    put_numbers::put_u8(out, 1, header.peer_flags.0);
-    put_numbers::put_u64(out, 2, header.peer_distinguisher.0);
+    numbers_writer::put_u8(out, 0, peer_type.number());
+    numbers_writer::put_u8(out, 1, header.peer_flags.0);
+    numbers_writer::put_u64(out, 2, header.peer_distinguisher.0);
     writing::put_bytes(out, 10, &octets);
-    put_numbers::put_u32(out, 26, header.peer_asn.0);
-    put_numbers::put_u32(out, 30, header.peer_bgp_id.0);
-    put_numbers::put_u32(out, 34, header.seconds);
-    put_numbers::put_u32(out, 38, header.microseconds);
+    numbers_writer::put_u32(out, 26, header.peer_asn.0);
+    numbers_writer::put_u32(out, 30, header.peer_bgp_id.0);
+    numbers_writer::put_u32(out, 34, header.seconds);
+    numbers_writer::put_u32(out, 38, header.microseconds);
 }

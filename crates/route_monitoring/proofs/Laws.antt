@@ -14,7 +14,7 @@ use Rattle.wire.specs.Refusal.{refusal, cutAt}
 use Rattle.wire.proofs.Bytes.{value-be, num-lt, num-back, part-back, bytes-drop}
 use Rattle.wire.proofs.Views.{octets-part}
 use Rattle.models.specs.declared.AsnLength.{AsnLength}
-use Rattle.peer_type.specs.declared.BmpPeerType.{BmpPeerType}
+use Rattle.per_peer_type.specs.declared.BmpPeerType.{BmpPeerType}
 use Rattle.route_monitoring.specs.Grammar.{Reading, join, Good}
 use Rattle.route_monitoring.specs.Shown.{goodOf, refusalOf}
 use Rattle.route_monitoring.specs.Told.{partsOf}

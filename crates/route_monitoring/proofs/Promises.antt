@@ -14,7 +14,7 @@ use Rattle.wire.specs.Refuses.{Refuses}
 use Rattle.wire.specs.Exactly.{Sound, Complete, Told, Unique}
 use Rattle.models.specs.Warnings.{countOnes}
 use Rattle.models.specs.declared.AsnLength.{AsnLength}
-use Rattle.peer_type.specs.declared.BmpPeerType.{BmpPeerType}
+use Rattle.per_peer_type.specs.declared.BmpPeerType.{BmpPeerType}
 use Rattle.route_monitoring.specs.Grammar.{Reading, join, Good, grammar}
 use Rattle.route_monitoring.specs.Warnings.{shortAs, warningsOf}
 use Rattle.route_monitoring.specs.Shown.{goodOf, shown, messageOf}

@@ -9,7 +9,7 @@ use Rattle.wire.specs.Bytes.{none}
 use Rattle.wire.specs.Refuses.{Refuses}
 use Rattle.wire.proofs.Refuses.{pick-in, Answered, is-good, is-empty, one-of, GivesEach, gives-too-long, refuses-from}
 use Rattle.models.specs.declared.AsnLength.{AsnLength}
-use Rattle.peer_type.specs.declared.BmpPeerType.{BmpPeerType}
+use Rattle.per_peer_type.specs.declared.BmpPeerType.{BmpPeerType}
 use Rattle.route_monitoring.specs.Read.{readRouteMonitoring, numbers, reader}
 
 module _ (width : AsnLength) (t : BmpPeerType) where

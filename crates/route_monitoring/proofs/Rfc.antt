@@ -7,9 +7,9 @@ use Rattle.wire.proofs.Refuses.{bytes-are}
 use Rattle.wire.proofs.Exactly.{shows-good}
 use Rattle.models.specs.declared.AsnLength.{AsnLength}
 use Rattle.models.specs.declared.AsnLength.the-variants.{Bits32}
-use Rattle.peer_type.specs.Peer.{kindOf}
-use Rattle.peer_type.specs.declared.BmpPeerType.{BmpPeerType}
-use Rattle.peer_type.specs.declared.BmpPeerType.the-variants.{LocalRib}
+use Rattle.per_peer_type.specs.Peer.{kindOf}
+use Rattle.per_peer_type.specs.declared.BmpPeerType.{BmpPeerType}
+use Rattle.per_peer_type.specs.declared.BmpPeerType.the-variants.{LocalRib}
 use Rattle.route_monitoring.specs.Grammar.{Good}
 use Rattle.route_monitoring.specs.Shown.{warningsIn}
 use Rattle.route_monitoring.specs.Read.{readRouteMonitoring, reader}

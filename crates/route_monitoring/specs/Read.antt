@@ -8,7 +8,7 @@ use Rattle.wire.specs.Bytes.{pick}
 use Rattle.wire.specs.Refusal.{refusal, cutAt}
 use Rattle.wire.specs.Exactly.{Reader}
 use Rattle.models.specs.declared.AsnLength.{AsnLength}
-use Rattle.peer_type.specs.declared.BmpPeerType.{BmpPeerType}
+use Rattle.per_peer_type.specs.declared.BmpPeerType.{BmpPeerType}
 use Rattle.route_monitoring.specs.Told as Told
 use Rattle.route_monitoring.specs.Grammar.{grammar}
 use Rattle.route_monitoring.specs.Shown.{goodOf, shown, refusalOf, stopOf}

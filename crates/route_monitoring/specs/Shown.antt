@@ -5,7 +5,7 @@ use Rattle.wire.specs.Refusal.{noRefusal}
 use Rattle.wire.specs.View.{view, noView}
 use Rattle.wire.specs.declared.Refusal.{Refusal}
 use Rattle.models.specs.declared.AsnLength.{AsnLength}
-use Rattle.peer_type.specs.declared.BmpPeerType.{BmpPeerType}
+use Rattle.per_peer_type.specs.declared.BmpPeerType.{BmpPeerType}
 use Rattle.route_monitoring.specs.Grammar.{Reading}
 use Rattle.route_monitoring.specs.Warnings.{warningsOf}
 use Rattle.route_monitoring.specs.declared.RouteMonitoring.{RouteMonitoring}

@@ -4,8 +4,8 @@ use mathlib.Core.Bool.{Bool, true, false, _&&_}
 use Rattle.wire.specs.Bytes.{pick}
 use Rattle.models.specs.declared.AsnLength.{AsnLength}
 use Rattle.models.specs.declared.AsnLength.the-variants.{Bits16, Bits32}
-use Rattle.peer_type.specs.Peer.{kindOf, isLocRib}
-use Rattle.peer_type.specs.declared.BmpPeerType.{BmpPeerType}
+use Rattle.per_peer_type.specs.Peer.{kindOf, isLocRib}
+use Rattle.per_peer_type.specs.declared.BmpPeerType.{BmpPeerType}
 
 abbrev pub isBits16 : AsnLength → Bool
 isBits16 Bits16 = true

@@ -1,6 +1,6 @@
 // The body of a BMP Route Monitoring message (RFC 7854, section 4.6).
 use models::AsnLength;
-use peer_type::BmpPeerType;
+use per_peer_type::BmpPeerType;
 use wire::Need;
 use wire::Refusal;
 use wire::View;
@@ -47,7 +47,7 @@ pub fn parse_route_monitoring(
 fn warnings_of(asn_len: AsnLength, peer_type: BmpPeerType) -> u32
     ensures { λ r. ⌜ r ≡ warningsOf «asn_len» «peer_type» ⌝ }
 {
-    if peer_type.number() != peer_type::LOCAL_RIB {
+    if peer_type.number() != per_peer_type::LOCAL_RIB {
         return 0;
     }
     match asn_len {

@@ -15,7 +15,7 @@ use Rattle.writing.specs.declared.WriteAnswer.{WriteAnswer}
 use Rattle.writing.specs.declared.WriteAnswer.the-variants.{Written}
 use Rattle.writing.proofs.Answers.{front, wrote-determined}
 use Rattle.models.specs.declared.AsnLength.{AsnLength}
-use Rattle.peer_type.specs.declared.BmpPeerType.{BmpPeerType}
+use Rattle.per_peer_type.specs.declared.BmpPeerType.{BmpPeerType}
 use Rattle.route_monitoring.specs.Grammar.{join, Good}
 use Rattle.route_monitoring.specs.Shown.{refusalOf, stopOf, messageOf}
 use Rattle.route_monitoring.specs.Told.{partsOf}

@@ -35,8 +35,8 @@ pub fn put_data(out: &mut [u8], at: usize, stat_data: StatsData, buffer: &[u8])
     ensures { λ _. ⌜ now (out .exit) ≡ putAt (now (out .entry)) at (dataBytes (now (buffer .entry)) «stat_data») ⌝ }
 {
     match stat_data {
-        StatsData::Counter(n) => put_numbers::put_u32(out, at, n),
-        StatsData::Gauge(n) => put_numbers::put_u64(out, at, n),
+        StatsData::Counter(n) => numbers_writer::put_u32(out, at, n),
+        StatsData::Gauge(n) => numbers_writer::put_u64(out, at, n),
         StatsData::AfiSafiGauge(afi, safi, n) => put_afi_safi_gauge(out, at, afi, safi, n),
         StatsData::Unknown(view) => writing::put_bytes(out, at, view.part(buffer)),
     }
@@ -50,7 +50,7 @@ fn put_afi_safi_gauge(out: &mut [u8], at: usize, afi: u16, safi: u8, n: u64)
     }
     let safi_at = at + 2;
     let n_at = at + 3;
-    put_numbers::put_u16(out, at, afi);
-    put_numbers::put_u8(out, safi_at, safi);
-    put_numbers::put_u64(out, n_at, n);
+    numbers_writer::put_u16(out, at, afi);
+    numbers_writer::put_u8(out, safi_at, safi);
+    numbers_writer::put_u64(out, n_at, n);
 }

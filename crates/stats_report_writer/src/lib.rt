@@ -35,7 +35,7 @@ pub fn write_stats_report(report: StatsReport, buffer: &[u8], out: &mut [u8]) ->
     let WriteAnswer::Written(_) = answer else {
         return answer;
     };
-    put_numbers::put_u32(out, 0, report.stats_count);
+    numbers_writer::put_u32(out, 0, report.stats_count);
     let mut at: usize = 4;
     let mut k: usize = 0;
     while k < count {
@@ -88,7 +88,7 @@ fn put_counter(out: &mut [u8], at: usize, counter: StatCounter, buffer: &[u8])
     ensures { λ _. ⌜ now (out .exit) ≡ putAt (now (out .entry)) at (oneCounter (now (buffer .entry)) counter) ⌝ }
 {
     let stat_data = counter.stat_data();
-    put_numbers::put_u16(out, at, counter.kind);
-    put_numbers::put_u16(out, at + 2, counter.stat_len);
+    numbers_writer::put_u16(out, at, counter.kind);
+    numbers_writer::put_u16(out, at + 2, counter.stat_len);
     stats_data_writer::put_data(out, at + 4, stat_data, buffer);
 }

@@ -93,8 +93,8 @@ fn put_parts(out: &mut [u8], at: usize, tlv: TlvEntry, buffer: &[u8])
     ensures { λ _. ⌜ now (out .exit) ≡ putAt (now (out .entry)) at (oneTlv (now (buffer .entry)) tlv) ⌝ }
 {
     let value = tlv.value;
-    put_numbers::put_u16(out, at, tlv.kind);
-    put_numbers::put_u16(out, at + 2, tlv.size);
+    numbers_writer::put_u16(out, at, tlv.kind);
+    numbers_writer::put_u16(out, at + 2, tlv.size);
     put_value(out, at + 4, value, buffer);
 }
 
@@ -103,6 +103,6 @@ fn put_value(out: &mut [u8], at: usize, value: TlvValue, buffer: &[u8])
 {
     match value {
         TlvValue::Part(view) => writing::put_bytes(out, at, view.part(buffer)),
-        TlvValue::Number(number) => put_numbers::put_u16(out, at, number),
+        TlvValue::Number(number) => numbers_writer::put_u16(out, at, number),
     }
 }

@@ -10,4 +10,5 @@ pub mod Exactly
 pub mod Refuses
 pub mod Cuts
 pub mod Determined
+pub mod Flags
 pub mod Promises

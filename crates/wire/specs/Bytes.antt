@@ -5,7 +5,7 @@ use mathlib.Core.Path.{_≡_}
 use mathlib.Core.Bool.{Bool, true, false}
 use mathlib.Core.List.{List, [], _∷_}
 use lib.ListN.{length, take, drop}
-use lib.Dec.{leb}
+use lib.Dec.{leb, eqb}
 
 -- one of two, by a test
 abbrev pub pick : {A : Type 0} → Bool → A → A → A
@@ -41,3 +41,7 @@ has w s at = leb w (length s - at)
 -- the same number for every place: 0 where not all of its bytes are there
 abbrev pub numberAt : ℕ → List ℕ → ℕ → ℕ
 numberAt w s at = pick (has w s at) (numAt w s at) 0
+
+-- ---- a bit of a byte, by its weight
+abbrev pub flag : ℕ → ℕ → Bool
+flag weight byte = eqb (byte / weight % 2) 1

@@ -5,7 +5,7 @@ use Prim.Native.Nat.{ℕ}
 use mathlib.Core.List.{List}
 use Rattle.models.specs.declared.Afi.{Afi}
 use Rattle.models.specs.declared.AsnLength.{AsnLength}
-use Rattle.peer.specs.declared.BmpPerPeerHeader.{BmpPerPeerHeader}
+use Rattle.per_peer_record.specs.declared.BmpPerPeerHeader.{BmpPerPeerHeader}
 use Rattle.route_monitoring.specs.Shown.{refusalOf}
 use Rattle.route_monitoring.specs.Read.{readRouteMonitoring}
 use Rattle.stats_report.specs.declared.StatsAnswer.{StatsAnswer}

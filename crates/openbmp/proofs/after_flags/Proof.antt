@@ -1,7 +1,7 @@
 use borrow.Author.Needs.{needs}
 use mathlib.Core.Path.{sym, ap, _∙_}
 use borrow.Author.Tests.{lt-ltb, le-ltb}
-use Rattle.peer_type.proofs.Flags.{flag-set, flag-clear}
+use Rattle.wire.proofs.Flags.{flag-set, flag-clear}
 use Rattle.openbmp.specs.Read.{afterFlags}
 use Rattle.openbmp.specs.Shown.{refused}
 use Rattle.openbmp.proofs.after_flags.Statement.{statement}

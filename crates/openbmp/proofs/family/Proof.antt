@@ -1,5 +1,5 @@
 use mathlib.Core.Path.{sym}
-use Rattle.peer_type.proofs.Flags.{flag-set, flag-clear}
+use Rattle.wire.proofs.Flags.{flag-set, flag-clear}
 use Rattle.openbmp.proofs.family.Statement.{statement}
 use Rattle.openbmp.proofs.family.Tie as tie
 

@@ -7,7 +7,7 @@ use lib.ListN.{length, take, drop}
 use lib.Dec.{lit≤}
 use Rattle.per_peer_header.specs.Read.{addressField, asField, partsOf}
 use Rattle.per_peer_header.specs.Shown.{shownAddress, shownAsn}
-use Rattle.peer_type.specs.Peer.{typeOf}
+use Rattle.per_peer_type.specs.Peer.{typeOf}
 use Rattle.per_peer_header.specs.Warnings.{warningsOf, warnings}
 use Rattle.per_peer_header.proofs.Fields.{there, address-there, address-bytes}
 use Rattle.wire.specs.Bytes.{numAt}

@@ -1,7 +1,7 @@
 use borrow.Author.Needs.{needs}
 use borrow.Author.Tests.{eq-eqb, ne-eqb}
 use mathlib.Core.Path.{sym, _∙_}
-use Rattle.peer_type.proofs.Flags.{bits16-flag, bits32-flag}
+use Rattle.per_peer_type.proofs.Flags.{bits16-flag, bits32-flag}
 use Rattle.per_peer_header.proofs.shown_asn.Statement.{statement}
 use Rattle.per_peer_header.proofs.shown_asn.Tie as tie
 

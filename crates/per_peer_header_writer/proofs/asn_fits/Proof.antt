@@ -5,7 +5,7 @@ use mathlib.Core.Bool.{Bool, true, false}
 use mathlib.Core.Path.{_≡_, refl, sym, _∙_}
 use Prim.Native.Nat.{ℕ, _%_, _^_}
 use lib.Dec.{eqb, ltb}
-use Rattle.peer_type.proofs.Flags.{bits16-flag, bits32-flag}
+use Rattle.per_peer_type.proofs.Flags.{bits16-flag, bits32-flag}
 use Rattle.per_peer_header_writer.proofs.asn_fits.Statement.{statement}
 use Rattle.per_peer_header_writer.proofs.asn_fits.Tie as tie
 
