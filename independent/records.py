@@ -273,16 +273,22 @@ def change_answers(name, buffer, read, writer):
 
 
 def value_answers(buffer, read):
-    counter = (read().counters + [NO_COUNTER])[0]
+    try:
+        tests = [bmp.is_counter_writable(tried, buffer) for tried in value_tries((read().counters + [NO_COUNTER])[0])]
+    except bmp.Refused:
+        tests = 4 * [False]
+    for number, test in enumerate(tests, start=1):
+        yield f"value stats {number}: {'writable' if test else 'not writable'}"
+
+
+def value_tries(counter):
     length = counter.stat_len
-    tries = [
+    return [
         counter,
         counter._replace(stat_len=length + 1),
         counter._replace(stat_data=bmp.Raw(bmp.View(0, length))),
         counter._replace(stat_data=bmp.Raw(bmp.View(OUTSIDE, length))),
     ]
-    for number, tried in enumerate(tries, start=1):
-        yield f"value stats {number}: {'writable' if bmp.is_counter_writable(tried, buffer) else 'not writable'}"
 
 
 def main():
