@@ -11,7 +11,7 @@ use Rattle.common_header.specs.Read.{readFields}
 use Rattle.common_header.specs.declared.CommonFields.{CommonFields}
 
 module _ (s : List ℕ) where
-  pub no-version : length s - 0 < 1 → readFields s ≡ CommonFields.Refused (cutAt 0)
+  pub no-version : length s - 0 < 1 → readFields s ≡ CommonFields.Refused (cutAt (length s) 0 1)
   unfolding readFields
   no-version h = rw (lt-leb 1 (length s - 0) h)
 
@@ -21,12 +21,12 @@ module _ (s : List ℕ) where
     other-version h = rw (le-leb 1 (length s - 0) one, ne-eqb (numAt 1 s 0) 3 h)
 
     module _ (three : numAt 1 s 0 ≡ 3) where
-      pub no-length : length s - 1 < 4 → readFields s ≡ CommonFields.Refused (cutAt 1)
+      pub no-length : length s - 1 < 4 → readFields s ≡ CommonFields.Refused (cutAt (length s) 1 4)
       unfolding readFields
       no-length h = rw (le-leb 1 (length s - 0) one, eq-eqb (numAt 1 s 0) 3 three, lt-leb 4 (length s - 1) h)
 
       module _ (five : 4 ≤ length s - 1) where
-        pub no-kind : length s - 5 < 1 → readFields s ≡ CommonFields.Refused (cutAt 5)
+        pub no-kind : length s - 5 < 1 → readFields s ≡ CommonFields.Refused (cutAt (length s) 5 1)
         unfolding readFields
         no-kind h =
             rw (le-leb 1 (length s - 0) one, eq-eqb (numAt 1 s 0) 3 three, le-leb 4 (length s - 1) five, lt-leb 1 (length s - 5) h)

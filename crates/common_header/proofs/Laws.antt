@@ -53,8 +53,8 @@ accepted s e =
     go : (a : Bool) → ltb Number.limit (length s) ≡ a → (b : Bool) → has 1 s 0 ≡ b → (c : Bool) → eqb (numAt 1 s 0) 3 ≡ c
         → (d : Bool) → has 4 s 1 ≡ d → (f : Bool) → has 1 s 5 ≡ f → (g : Bool) → ltb 6 (numAt 1 s 5) ≡ g
         → refusalOf (pick a (CommonHeaderAnswer.Refused (refusal Number.TooLong 0)) (judged
-        (pick b (pick c (pick d (pick f (CommonFields.Whole (numAt 4 s 1) (numAt 1 s 5)) (CommonFields.Refused (cutAt 5))) (CommonFields.Refused (cutAt 1)))
-        (CommonFields.Refused (refusal Number.BadVersion 0))) (CommonFields.Refused (cutAt 0))))) .number ≡ Number.Good
+        (pick b (pick c (pick d (pick f (CommonFields.Whole (numAt 4 s 1) (numAt 1 s 5)) (CommonFields.Refused (cutAt (length s) 5 1))) (CommonFields.Refused (cutAt (length s) 1 4)))
+        (CommonFields.Refused (refusal Number.BadVersion 0))) (CommonFields.Refused (cutAt (length s) 0 1))))) .number ≡ Number.Good
         → Accepted s
     go true ha b hb c hc d hd f hf g hg q = no q
     go false ha false hb c hc d hd f hf g hg q = no q

@@ -8,6 +8,7 @@ use Rattle.wire.proofs.Bytes.{num-lt, bytes-drop}
 use Rattle.wire.proofs.Arms.{number-of-name}
 use Rattle.wire.proofs.Determined.{determined}
 use Rattle.wire.specs.Refuses.{Refuses}
+use Rattle.wire.specs.Waits.{Waits, MissingTells}
 use Rattle.wire.specs.Exactly.{Sound, Complete, Told, Unique}
 use Rattle.common_header.specs.Grammar.{Reading, join, grammar}
 use Rattle.common_header.specs.Shown.{names, typeOf, kindOf, shown}
@@ -17,6 +18,7 @@ use Rattle.common_header.specs.declared.BmpMsgType.the-variants.{RouteMo
 use Rattle.common_header.specs.declared.CommonHeaderAnswer.{CommonHeaderAnswer}
 use Rattle.common_header.proofs.Laws.{length-join, parts-join, join-parts, Accepted, accepted, shows-parts}
 use Rattle.common_header.proofs.Refusals as Refusals
+use Rattle.common_header.proofs.Waits as Waiting
 
 -- What the reader accepts has a good reading, which it shows.
 pub sound : Sound reader
@@ -66,6 +68,14 @@ told-back r g f =
 -- A refusal shows nothing but itself, and has one of the reader's numbers; each of these is given for some input.
 pub refuses : Refuses reader
 refuses = Refusals.refuses
+
+-- Who waits for as many bytes as a Cut says are missing waits neither too long nor in vain.
+pub waits : Waits reader
+waits = Waiting.waits
+
+-- Bytes are missing exactly where the refusal is a Cut.
+pub missing-tells : MissingTells reader
+missing-tells = Waiting.missing-tells
 
 -- No input has two readings.
 pub unique : Unique grammar

@@ -24,10 +24,10 @@ readFields s =
     (pick (eqb (numAt 1 s 0) 3)
     (pick (has 4 s 1)
     (pick (has 1 s 5) (CommonFields.Whole (numAt 4 s 1) (numAt 1 s 5))
-    (CommonFields.Refused (cutAt 5)))
-    (CommonFields.Refused (cutAt 1)))
+    (CommonFields.Refused (cutAt (length s) 5 1)))
+    (CommonFields.Refused (cutAt (length s) 1 4)))
     (CommonFields.Refused (refusal Number.BadVersion 0)))
-    (CommonFields.Refused (cutAt 0))
+    (CommonFields.Refused (cutAt (length s) 0 1))
 
 -- the fields shown, where the type is known
 abbrev pub judged : CommonFields → CommonHeaderAnswer

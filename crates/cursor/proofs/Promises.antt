@@ -10,10 +10,11 @@ use borrow.Author.Tests.{le-leb, lt-leb}
 use lib.ListN.{length}
 use Rattle.cursor.proofs.Reading.{tells8, tells16, tells32, tells64}
 
--- Where as many bytes are left, the number is read and the cursor stands behind it; where fewer are, it is Cut at the cursor.
+-- Where as many bytes are left, the number is read and the cursor stands behind it; where fewer are, it is Cut at the cursor, and what is missing
+-- is its width less what is left.
 pub read-says : (w : ℕ) (s : List ℕ) (at : ℕ)
     → (w ≤ length s - at → (refusalOf (read w s at) ≡ noRefusal) × (valueOf (read w s at) ≡ numAt w s at) × (nextOf (read w s at) ≡ cursor (at + w)))
-    × (length s - at < w → refusalOf (read w s at) ≡ cutAt at)
+    × (length s - at < w → refusalOf (read w s at) ≡ cutAt (length s) at w)
 read-says w s at = (λ h. rw (le-leb w (length s - at) h) (refl, refl, refl), λ h. rw (lt-leb w (length s - at) h))
 
 -- The answer of each method, in one form, is that read.

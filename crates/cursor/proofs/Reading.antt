@@ -25,7 +25,7 @@ module _ (w : ℕ) (s : List ℕ) (at : ℕ) where
   read-got n h e =
       ap (λ (k : ℕ). got k (cursor (at + w))) (e ∙ number-is w s at h) ∙ sym (rw (le-leb w (length s - at) h))
 
-  pub read-cut : (r : Refusal) → length s - at < w → r ≡ cutAt at → cut r ≡ read w s at
+  pub read-cut : (r : Refusal) → length s - at < w → r ≡ cutAt (length s) at w → cut r ≡ read w s at
   read-cut r h e = ap cut e ∙ sym (rw (lt-leb w (length s - at) h))
 
 -- ---- and the other way: a number n of w bytes was read at a place, and c stands behind it
@@ -37,15 +37,15 @@ pub record Was (w : ℕ) (s : List ℕ) (at n : ℕ) (c : Cursor) : Type 0 where
 pub was-got : (w : ℕ) (s : List ℕ) (at : ℕ) {x : Read} {n : ℕ} {c : Cursor} → x ≡ got n c → x ≡ read w s at → Was w s at n c
 was-got w s at {x} {n} {c} e f = go (has w s at) refl (sym e ∙ f)
   where
-    go : (b : Bool) → has w s at ≡ b → got n c ≡ pick b (got (numAt w s at) (cursor (at + w))) (cut (cutAt at)) → Was w s at n c
+    go : (b : Bool) → has w s at ≡ b → got n c ≡ pick b (got (numAt w s at) (cursor (at + w))) (cut (cutAt (length s) at w)) → Was w s at n c
     go true h q = record { left = leb-true w (length s - at) h; number = cc; next = cc }
     go false h q = let z : _≡_ {A = ℕ} 0 1 = cc in absurd (omega arith)
 
--- or it lacks bytes, and its Cut is at its place
+-- or it lacks bytes, and its Cut is at its place and says how many
 pub was-cut : (w : ℕ) (s : List ℕ) (at : ℕ) {x : Read} {r : Refusal} → x ≡ cut r → x ≡ read w s at → Lacked (length s) at w r
 was-cut w s at {x} {r} e f = go (has w s at) refl (sym e ∙ f)
   where
-    go : (b : Bool) → has w s at ≡ b → cut r ≡ pick b (got (numAt w s at) (cursor (at + w))) (cut (cutAt at)) → Lacked (length s) at w r
+    go : (b : Bool) → has w s at ≡ b → cut r ≡ pick b (got (numAt w s at) (cursor (at + w))) (cut (cutAt (length s) at w)) → Lacked (length s) at w r
     go true h q = let z : _≡_ {A = ℕ} 0 1 = cc in absurd (omega arith)
     go false h q = record { few = leb-false w (length s - at) h; cut-is = cc }
 

@@ -1,6 +1,8 @@
--- What reading a number with the cursor finds, for every width: the number and the cursor past it, or Cut at the number's place.
+-- What reading a number with the cursor finds, for every width: the number and the cursor past it, or Cut at the number's place, with what is
+-- missing of its width.
 use Prim.Native.Nat.{ℕ, _+_}
 use mathlib.Core.List.{List}
+use lib.ListN.{length}
 use Rattle.wire.specs.Bytes.{pick, has, numAt}
 use Rattle.wire.specs.Refusal.{cutAt, noRefusal}
 use Rattle.wire.specs.declared.Refusal.{Refusal}
@@ -18,7 +20,7 @@ pub data Read : Type 0 where
   cut : Refusal → Read
 
 abbrev pub read : ℕ → List ℕ → ℕ → Read
-read w s at = pick (has w s at) (got (numAt w s at) (cursor (at + w))) (cut (cutAt at))
+read w s at = pick (has w s at) (got (numAt w s at) (cursor (at + w))) (cut (cutAt (length s) at w))
 
 -- the same answer as each of the cursor's methods gives it
 abbrev pub asU8 : Read → ReadU8

@@ -13,6 +13,7 @@ use Rattle.wire.proofs.Walk.{read-complete, each-at, read-accepted, read-too-ma
 use Rattle.wire.proofs.Walk as Walk
 use Rattle.wire.proofs.Arms.{number-of-name}
 use Rattle.wire.specs.Refuses.{Refuses}
+use Rattle.wire.specs.Waits.{Waits, MissingTells}
 use Rattle.wire.specs.Exactly.{Sound, Complete, Told, Unique}
 use Rattle.wire.specs.Number as Number
 use Rattle.wire.specs.Refusal.{refusal}
@@ -29,6 +30,7 @@ use Rattle.initiation_message.proofs.Laws.{faults, laws, tails}
 use Rattle.initiation_message.proofs.Shows.{shows-of, ViewAt}
 use Rattle.initiation_message.proofs.Told as ToldProofs
 use Rattle.initiation_message.proofs.Refusals as Refusals
+use Rattle.initiation_message.proofs.Waits as Waiting
 
 -- What the reader accepts has a good reading that fits, and it shows that reading.
 pub sound : Sound reader
@@ -49,6 +51,14 @@ told-back = ToldProofs.told-back
 -- A refusal shows nothing but itself, and has one of the reader's numbers; each of these is given for some input.
 pub refuses : Refuses reader
 refuses = Refusals.refuses
+
+-- Who waits for as many bytes as a Cut says are missing waits neither too long nor in vain.
+pub waits : Waits reader
+waits = Waiting.waits
+
+-- Bytes are missing exactly where the refusal is a Cut.
+pub missing-tells : MissingTells reader
+missing-tells = Waiting.missing-tells
 
 -- A good reading of more TLVs than the table holds is refused with TooMany, at the first that has no room.
 pub too-many : (r : Reading) → Good r → length (join r) ≤ Number.limit → places < length (r .tlvs)

@@ -1,2 +1,3 @@
 pub mod Cuts
+pub mod Waits
 pub mod Promises

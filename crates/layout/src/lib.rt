@@ -4,8 +4,8 @@ use wire::Refusal;
 ghost use mathlib.Core.Path.{_≡_};
 ghost use Rattle.layout.specs.Layout.{cutIn};
 
-// The Cut of a run of fields of these widths, the first at a place, in an input of this length. It is asked for where a field lacks
-// bytes; where none does, the Cut stands at the end of the run.
+// The Cut of a run of fields of these widths, the first at a place, in an input of this length: that of the first field that lacks
+// bytes, and no refusal where none does.
 pub fn cut_in(widths: &[usize], at: usize, there: usize) -> Refusal
     ensures { λ r. ⌜ r ≡ cutIn (now (widths .entry)) at there ⌝ }
 {
@@ -20,5 +20,5 @@ pub fn cut_in(widths: &[usize], at: usize, there: usize) -> Refusal
             }
         }
     }
-    wire::refusal_at(wire::CUT, place)
+    wire::no_refusal()
 }

@@ -5,14 +5,14 @@ use mathlib.Core.List.{List, map, [], _∷_}
 use native.Mathlib.Omega.{arith}
 use lib.ListN.{length}
 use Rattle.wire.specs.Number as Number
-use Rattle.wire.specs.Refusal.{cutAt}
 use Rattle.wire.specs.View.{viewed}
 use Rattle.wire.proofs.Determined.{determined}
 use Rattle.wire.specs.Lacking.{FirstLacking}
 use Rattle.wire.specs.Refuses.{Refuses}
+use Rattle.wire.specs.Waits.{Waits, MissingTells}
 use Rattle.wire.specs.Exactly.{Sound, Complete, Told, Unique}
 use Rattle.wire.specs.Bytes.{be}
-use Rattle.layout.specs.Layout.{firstCut}
+use Rattle.layout.specs.Layout.{cutIn}
 use Rattle.layout.proofs.Promises.{first-lacking}
 use Rattle.openbmp.specs.Grammar.{Reading, join, Good, grammar, parts, widths}
 use Rattle.openbmp.specs.Shown.{shownHeader, shown}
@@ -23,6 +23,7 @@ use Rattle.openbmp.proofs.Stages.{accepted, shows-parts}
 use Rattle.openbmp.proofs.Cuts.{widthsIn, header-lacks}
 use Rattle.openbmp.proofs.Told as ToldProofs
 use Rattle.openbmp.proofs.Refusals as Refusals
+use Rattle.openbmp.proofs.Waits as Waiting
 
 -- What the reader accepts has a good reading, which it shows.
 pub sound : Sound reader
@@ -42,13 +43,21 @@ told-back = ToldProofs.told-back
 pub refuses : Refuses reader
 refuses = Refusals.refuses
 
+-- Who waits for as many bytes as a Cut says are missing waits neither too long nor in vain.
+pub waits : Waits reader
+waits = Waiting.waits
+
+-- Bytes are missing exactly where the refusal is a Cut.
+pub missing-tells : MissingTells reader
+missing-tells = Waiting.missing-tells
+
 -- No input has two readings.
 pub unique : Unique grammar
 unique r q g h e = sym (parts-join r g) ∙ ap partsIn e ∙ parts-join q h
 
--- A header that is cut is refused at the first field that lacks bytes, by the widths that the lengths in it give.
+-- A header that is cut is refused at the first field that lacks bytes, by the widths that the lengths in it give, with as many missing as it lacks.
 pub refuses-cut : (s : List ℕ) → readOpenBmpHeader s .refusal .number ≡ Number.Cut
-    → (readOpenBmpHeader s .refusal ≡ cutAt (firstCut (widthsIn s) 0 (length s))) × FirstLacking (widthsIn s) 0 (length s) (firstCut (widthsIn s) 0 (length s))
+    → (readOpenBmpHeader s .refusal ≡ cutIn (widthsIn s) 0 (length s)) × FirstLacking (widthsIn s) 0 (length s) (cutIn (widthsIn s) 0 (length s))
 refuses-cut s e =
     let c = header-lacks s e in
     (c .0, first-lacking (widthsIn s) 0 (length s) (omega arith) (omega (arith, c .1)))

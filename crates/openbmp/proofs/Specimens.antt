@@ -5,7 +5,7 @@ use mathlib.Core.Path.{_≡_, refl}
 use lib.ListN.{take, replicate}
 use Rattle.wire.specs.Number as Number
 use Rattle.wire.specs.Bytes.{be, value}
-use Rattle.wire.specs.Refusal.{refusal, cutAt}
+use Rattle.wire.specs.Refusal.{refusal, lacking}
 use Rattle.wire.specs.View.{view}
 use Rattle.wire.specs.declared.Refusal.{Refusal}
 use Rattle.wire.specs.declared.View.{View}
@@ -25,10 +25,10 @@ header major minor flags kind rows =
 abbrev refusalOf : List ℕ → Refusal
 refusalOf s = readOpenBmpHeader s .refusal
 
--- Each field in turn has all of its bytes but one.
+-- Each field in turn has all of its bytes but one, and that one is missing.
 pub cuts-are-refused : map (λ n. refusalOf (take n (header 1 7 0x80 12 1)))
     (3 ∷ 4 ∷ 5 ∷ 7 ∷ 11 ∷ 12 ∷ 13 ∷ 17 ∷ 21 ∷ 37 ∷ 39 ∷ 41 ∷ 57 ∷ 73 ∷ 75 ∷ 76 ∷ 80 ∷ [])
-    ≡ map cutAt (0 ∷ 4 ∷ 5 ∷ 6 ∷ 8 ∷ 12 ∷ 13 ∷ 14 ∷ 18 ∷ 22 ∷ 38 ∷ 40 ∷ 42 ∷ 58 ∷ 74 ∷ 76 ∷ 77 ∷ [])
+    ≡ map (λ p. lacking p 1) (0 ∷ 4 ∷ 5 ∷ 6 ∷ 8 ∷ 12 ∷ 13 ∷ 14 ∷ 18 ∷ 22 ∷ 38 ∷ 40 ∷ 42 ∷ 58 ∷ 74 ∷ 76 ∷ 77 ∷ [])
 unfolding be value afterRowCount afterGroupLength afterAdminLength afterType afterFlags afterVersions afterMagic
 cuts-are-refused = refl
 
@@ -36,7 +36,7 @@ cuts-are-refused = refl
 pub faults-are-refused : map refusalOf
     ((79 ∷ 66 ∷ 77 ∷ 81 ∷ []) ∷ take 5 (header 2 7 0x80 12 1) ∷ take 6 (header 2 7 0x80 12 1) ∷ take 6 (header 1 6 0x80 12 1)
     ∷ take 13 (header 1 7 0x7F 12 1) ∷ take 14 (header 1 7 0x80 11 1) ∷ header 1 7 0x80 12 0 ∷ header 1 7 0x80 12 2 ∷ [])
-    ≡ refusal Number.BadOpenBmp 0 ∷ cutAt 5 ∷ refusal Number.BadOpenBmp 4 ∷ refusal Number.BadOpenBmp 4
+    ≡ refusal Number.BadOpenBmp 0 ∷ lacking 5 1 ∷ refusal Number.BadOpenBmp 4 ∷ refusal Number.BadOpenBmp 4
     ∷ refusal Number.Unsupported 12 ∷ refusal Number.Unsupported 13 ∷ refusal Number.BadOpenBmp 77 ∷ refusal Number.BadOpenBmp 77 ∷ []
 unfolding be value afterRowCount afterGroupLength afterAdminLength afterType afterFlags afterVersions afterMagic
 faults-are-refused = refl

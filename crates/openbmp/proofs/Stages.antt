@@ -4,13 +4,15 @@ use mathlib.Core.Bool.{Bool, true, false, _&&_, and-eq-true-iff}
 use mathlib.Core.Path.{_≡_, refl, _∙_, subst}
 use mathlib.Core.List.{List}
 use native.Mathlib.Omega.{arith}
-use borrow.Author.Tests.{eqb-true, eq-eqb, ltb-false, le-ltb}
+use borrow.Author.Tests.{eqb-true, eq-eqb, ltb-true, ltb-false, le-ltb}
 use lib.Dec.{eqb, ltb}
 use lib.ListN.{length}
 use Rattle.wire.specs.Number as Number
 use Rattle.wire.specs.Bytes.{pick, numAt, numberAt, flag}
 use Rattle.wire.specs.Refusal.{refusal}
 use Rattle.wire.proofs.Bytes.{number-is}
+use Rattle.layout.proofs.Cuts.{cut-number}
+use Rattle.openbmp.specs.Grammar.{widths}
 use Rattle.openbmp.specs.Shown.{shown, refused}
 use Rattle.openbmp.specs.Read.{partsOf, cut, afterRowCount, afterGroupLength, afterAdminLength, afterType, afterFlags, afterVersions, afterMagic, readOpenBmpHeader}
 use Rattle.openbmp.specs.declared.OpenBmpAnswer.{OpenBmpAnswer}
@@ -20,21 +22,27 @@ abbrev Fine : OpenBmpAnswer → Type 0
 Fine x = x .refusal .number ≡ Number.Good
 
 -- a stage that refuses on one side of each of its two tests was passed on the other
-passed : (test short : Bool) (x y z : OpenBmpAnswer) → (Fine x → ⊥) → (Fine z → ⊥) → Fine (pick test (pick short x y) z)
+passed : (test short : Bool) (x y z : OpenBmpAnswer) → (short ≡ true → Fine x → ⊥) → (Fine z → ⊥) → Fine (pick test (pick short x y) z)
     → (test ≡ true) × (short ≡ false)
 passed true false x y z nx nz e = (refl, refl)
-passed true true x y z nx nz e = absurd (nx e)
+passed true true x y z nx nz e = absurd (nx refl e)
 passed false short x y z nx nz e = absurd (nz e)
 
 module _ (s : List ℕ) where
+  -- a header that is short of a stage's end is cut
+  short-of : (a g end : ℕ) → end ≤ 78 + a + g → ltb (length s) end ≡ true → Fine (cut (length s) a g) → ⊥
+  short-of a g end h t e =
+      let few = ltb-true (length s) end t in
+      omega (arith, cut-number (widths a g) 0 (length s) (omega arith) (omega arith), e)
+
   start-asks : Fine (readOpenBmpHeader s) → (length s ≤ Number.limit) × (4 ≤ length s)
   start-asks e =
       let next = afterMagic s (numberAt 4 s 0) in
       let long = refused (refusal Number.TooLong 0) in
       let rest = pick (ltb (length s) 4) (cut (length s) 0 0) next in
-      let a = passed true (ltb Number.limit (length s)) long rest long (λ q. omega arith) (λ q. omega arith) e in
+      let a = passed true (ltb Number.limit (length s)) long rest long (λ h q. omega arith) (λ q. omega arith) e in
       let f : Fine rest = subst (λ (b : Bool). Fine (pick b long rest)) (a .1) e in
-      let b = passed true (ltb (length s) 4) (cut (length s) 0 0) next long (λ q. omega arith) (λ q. omega arith) f in
+      let b = passed true (ltb (length s) 4) (cut (length s) 0 0) next long (short-of 0 0 4 (omega arith)) (λ q. omega arith) f in
       (ltb-false Number.limit (length s) (a .1), ltb-false (length s) 4 (b .1))
 
   start-on : length s ≤ Number.limit → 4 ≤ length s → readOpenBmpHeader s ≡ afterMagic s (numAt 4 s 0)
@@ -44,7 +52,7 @@ module _ (s : List ℕ) where
   unfolding afterMagic
   magic-asks magic e =
       let p = passed (eqb magic 0x4F424D50) (ltb (length s) 6) (cut (length s) 0 0) (afterVersions s (numberAt 1 s 4) (numberAt 1 s 5))
-      (refused (refusal Number.BadOpenBmp 0)) (λ q. omega arith) (λ q. omega arith) e in
+      (refused (refusal Number.BadOpenBmp 0)) (short-of 0 0 6 (omega arith)) (λ q. omega arith) e in
       (eqb-true magic 0x4F424D50 (p .0), ltb-false (length s) 6 (p .1))
 
   magic-on : (magic : ℕ) → magic ≡ 0x4F424D50 → 6 ≤ length s → afterMagic s magic ≡ afterVersions s (numAt 1 s 4) (numAt 1 s 5)
@@ -56,7 +64,7 @@ module _ (s : List ℕ) where
   unfolding afterVersions
   versions-ask major minor e =
       let p = passed (eqb major 1 && eqb minor 7) (ltb (length s) 13) (cut (length s) 0 0) (afterFlags s (numberAt 1 s 12))
-      (refused (refusal Number.BadOpenBmp 4)) (λ q. omega arith) (λ q. omega arith) e in
+      (refused (refusal Number.BadOpenBmp 4)) (short-of 0 0 13 (omega arith)) (λ q. omega arith) e in
       let both = and-eq-true-iff (eqb major 1) (eqb minor 7) .0 (p .0) in
       (eqb-true major 1 (both .0), eqb-true minor 7 (both .1), ltb-false (length s) 13 (p .1))
 
@@ -69,7 +77,7 @@ module _ (s : List ℕ) where
   unfolding afterFlags
   flags-ask flags e =
       let p = passed (flag 0x80 flags) (ltb (length s) 14) (cut (length s) 0 0) (afterType s (numberAt 1 s 13))
-      (refused (refusal Number.Unsupported 12)) (λ q. omega arith) (λ q. omega arith) e in
+      (refused (refusal Number.Unsupported 12)) (short-of 0 0 14 (omega arith)) (λ q. omega arith) e in
       (eqb-true (flags / 0x80 % 2) 1 (p .0), ltb-false (length s) 14 (p .1))
 
   flags-on : (flags : ℕ) → flags / 0x80 % 2 ≡ 1 → 14 ≤ length s → afterFlags s flags ≡ afterType s (numAt 1 s 13)
@@ -80,7 +88,7 @@ module _ (s : List ℕ) where
   unfolding afterType
   type-asks kind e =
       let p = passed (eqb kind 12) (ltb (length s) 40) (cut (length s) 0 0) (afterAdminLength s (numberAt 2 s 38))
-      (refused (refusal Number.Unsupported 13)) (λ q. omega arith) (λ q. omega arith) e in
+      (refused (refusal Number.Unsupported 13)) (short-of 0 0 40 (omega arith)) (λ q. omega arith) e in
       (eqb-true kind 12 (p .0), ltb-false (length s) 40 (p .1))
 
   type-on : (kind : ℕ) → kind ≡ 12 → 40 ≤ length s → afterType s kind ≡ afterAdminLength s (adminOf s)
@@ -91,7 +99,7 @@ module _ (s : List ℕ) where
   unfolding afterAdminLength
   admin-asks a e =
       let p = passed true (ltb (length s) (74 + a)) (cut (length s) a 0) (afterGroupLength s a (numberAt 2 s (72 + a)))
-      (cut (length s) a 0) (λ q. omega arith) (λ q. omega arith) e in
+      (refused (refusal Number.TooLong 0)) (short-of a 0 (74 + a) (omega arith)) (λ q. omega arith) e in
       ltb-false (length s) (74 + a) (p .1)
 
   admin-on : (a : ℕ) → 74 + a ≤ length s → afterAdminLength s a ≡ afterGroupLength s a (numAt 2 s (72 + a))
@@ -102,7 +110,7 @@ module _ (s : List ℕ) where
   unfolding afterGroupLength
   group-asks a g e =
       let p = passed true (ltb (length s) (78 + a + g)) (cut (length s) a g) (afterRowCount s a g (numberAt 4 s (74 + a + g)))
-      (cut (length s) a g) (λ q. omega arith) (λ q. omega arith) e in
+      (refused (refusal Number.TooLong 0)) (short-of a g (78 + a + g) (omega arith)) (λ q. omega arith) e in
       ltb-false (length s) (78 + a + g) (p .1)
 
   group-on : (a g : ℕ) → 78 + a + g ≤ length s → afterGroupLength s a g ≡ afterRowCount s a g (numAt 4 s (74 + a + g))
@@ -113,7 +121,7 @@ module _ (s : List ℕ) where
   unfolding afterRowCount
   rows-ask a g rows e =
       let bad = refused (refusal Number.BadOpenBmp (74 + a + g)) in
-      let p = passed (eqb rows 1) false bad (shown (partsOf s a g)) bad (λ q. omega arith) (λ q. omega arith) e in
+      let p = passed (eqb rows 1) false bad (shown (partsOf s a g)) bad (λ h q. omega arith) (λ q. omega arith) e in
       eqb-true rows 1 (p .0)
 
   rows-on : (a g rows : ℕ) → rows ≡ 1 → afterRowCount s a g rows ≡ shown (partsOf s a g)

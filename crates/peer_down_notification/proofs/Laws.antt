@@ -130,7 +130,7 @@ accepted s e = go (ltb Number.limit (length s)) refl (has 1 s 0) refl (ltb 6 (nu
 
     go : (a : Bool) → ltb Number.limit (length s) ≡ a → (b : Bool) → has 1 s 0 ≡ b → (c : Bool) → ltb 6 (numAt 1 s 0) ≡ c
         → refusalOf (pick a (PeerDownAnswer.Refused (refusal Number.TooLong 0))
-        (pick b (pick c (PeerDownAnswer.Refused (refusal Number.UnknownKind 0)) (goodOf (numAt 1 s 0) (length s - 1))) (PeerDownAnswer.Refused (cutAt 0)))) .number ≡ Number.Good
+        (pick b (pick c (PeerDownAnswer.Refused (refusal Number.UnknownKind 0)) (goodOf (numAt 1 s 0) (length s - 1))) (PeerDownAnswer.Refused (cutAt (length s) 0 1)))) .number ≡ Number.Good
         → Accepted s
     go true ha b hb c hc q = no q
     go false ha false hb c hc q = no q

@@ -7,6 +7,7 @@ use native.Mathlib.Omega.{arith}
 use Rattle.wire.specs.Bytes.{be}
 use Rattle.wire.proofs.Determined.{determined}
 use Rattle.wire.specs.Refuses.{Refuses}
+use Rattle.wire.specs.Waits.{Waits, MissingTells}
 use Rattle.wire.specs.Exactly.{Sound, Complete, Told, Unique}
 use Rattle.peer_down_notification.specs.Grammar.{Reading, join, grammar}
 use Rattle.peer_down_notification.specs.Shown.{kindOf, shownData, shown, dataOf}
@@ -16,6 +17,7 @@ use Rattle.peer_down_notification.specs.declared.PeerDownAnswer.{PeerDow
 use Rattle.peer_down_notification.proofs.Laws.{known-of, reason-there, parts-join, Accepted, parts-good, accepted, shows-parts, data-shown}
 use Rattle.peer_down_notification.proofs.Told as ToldProofs
 use Rattle.peer_down_notification.proofs.Refusals as Refusals
+use Rattle.peer_down_notification.proofs.Waits as Waiting
 
 -- What the reader accepts has a good reading, which it shows.
 pub sound : Sound reader
@@ -43,6 +45,14 @@ told-back = ToldProofs.told-back
 -- A refusal shows nothing but itself, and has one of the reader's numbers; each of these is given for some input.
 pub refuses : Refuses reader
 refuses = Refusals.refuses
+
+-- Who waits for as many bytes as a Cut says are missing waits neither too long nor in vain.
+pub waits : Waits reader
+waits = Waiting.waits
+
+-- Bytes are missing exactly where the refusal is a Cut.
+pub missing-tells : MissingTells reader
+missing-tells = Waiting.missing-tells
 
 -- No input has two readings.
 pub unique : Unique grammar

@@ -38,7 +38,7 @@ readPeerDown s =
     pick (ltb Number.limit (length s)) (PeerDownAnswer.Refused (refusal Number.TooLong 0))
     (pick (has 1 s 0)
     (pick (ltb 6 (numAt 1 s 0)) (PeerDownAnswer.Refused (refusal Number.UnknownKind 0)) (goodOf (numAt 1 s 0) (length s - 1)))
-    (PeerDownAnswer.Refused (cutAt 0)))
+    (PeerDownAnswer.Refused (cutAt (length s) 0 1)))
 
 -- the numbers that it refuses with
 abbrev pub numbers : List ℕ

@@ -12,7 +12,7 @@ use Rattle.wire.specs.Bytes.{numAt, Bytes}
 use Rattle.wire.specs.View.{view}
 use Rattle.wire.specs.Walk.{readFrom}
 use Rattle.wire.specs.declared.View.{View}
-use Rattle.wire.proofs.Cuts.{CutsIn, cuts-in, pick-by, value-lacks, walk-cut}
+use Rattle.wire.proofs.Cuts.{CutsIn, cuts-in, pick-by, value-lacks, one-lacks, walk-cut}
 use Rattle.layout.proofs.Promises.{first-lacking}
 use Rattle.models.specs.declared.Afi.{Afi}
 use Rattle.per_peer_type.specs.declared.BmpPeerType.{BmpPeerType}
@@ -35,7 +35,7 @@ cuts s =
 
 module _ (afi : Afi) (peer : BmpPeerType) (s : List ℕ) (p : Bytes s) where
   abbrev Cuts : PeerUpAnswer → Type 0
-  Cuts a = a .refusal .number ≡ Number.Cut → CutIn s (a .refusal .place)
+  Cuts a = a .refusal .number ≡ Number.Cut → CutIn s (a .refusal)
 
   in-tlvs : (sent received : View) (at : ℕ) → at ≡ endAt s (endAt s sentAt) → at ≤ length s
       → Cuts (withTlvs peer (frontOf afi s sent received) (readFrom kit (length s) at s))
@@ -49,9 +49,9 @@ module _ (afi : Afi) (peer : BmpPeerType) (s : List ℕ) (p : Bytes s) where
   after-sent sent at here inside =
       let size = numAt 2 s (at + 16) in
       let P : Open → Type 0 = λ o. Cuts (withReceived afi peer s sent o) in
-      pick-by P (ltb (length s - at) 19) (λ h e. in-received at here inside (inl (omega (arith, ltb-true (length s - at) 19 h))) refl) (λ h.
+      pick-by P (ltb (length s - at) 19) (λ h e. in-received at here (inl (one-lacks at 19 (length s) inside (ltb-true (length s - at) 19 h)))) (λ header.
       pick-by P (ltb size 19) (λ h e. absurd (omega arith)) (λ h. pick-by P (ltb (length s - at) size)
-      (λ h e. in-received at here inside (inr (omega (arith, ltb-true (length s - at) size h))) refl)
+      (λ h e. in-received at here (inr (omega (arith, ltb-false (length s - at) 19 header), one-lacks at size (length s) inside (ltb-true (length s - at) size h))))
       (λ h. in-tlvs sent (view at size) (at + size) (ap (endAt s) here) (omega (arith, ltb-false (length s - at) size h)))))
 
   pub refuses-cut : Cuts (readPeerUp afi peer s)
@@ -61,7 +61,7 @@ module _ (afi : Afi) (peer : BmpPeerType) (s : List ℕ) (p : Bytes s) where
       let P : Open → Type 0 = λ o. Cuts (withSent afi peer s o) in
       pick-by Cuts (ltb Number.limit (length s)) (λ h e. absurd (omega arith)) (λ h. pick-by Cuts (ltb (length s) sentAt)
       (λ h e. in-front (first-lacking widths 0 (length s) (omega arith) (ltb-true (length s) sentAt h))) (λ front. let f = ltb-false (length s) sentAt front in
-      pick-by P (ltb (length s - sentAt) 19) (λ h e. in-sent f (inl (omega (arith, ltb-true (length s - sentAt) 19 h))) refl) (λ h.
+      pick-by P (ltb (length s - sentAt) 19) (λ h e. in-sent (inl (one-lacks sentAt 19 (length s) f (ltb-true (length s - sentAt) 19 h)))) (λ header.
       pick-by P (ltb size 19) (λ h e. absurd (omega arith)) (λ h. pick-by P (ltb (length s - sentAt) size)
-      (λ h e. in-sent f (inr (omega (arith, ltb-true (length s - sentAt) size h))) refl)
+      (λ h e. in-sent (inr (omega (arith, ltb-false (length s - sentAt) 19 header), one-lacks sentAt size (length s) f (ltb-true (length s - sentAt) size h))))
       (λ h. after-sent (view sentAt size) (sentAt + size) refl (omega (arith, ltb-false (length s - sentAt) size h, f)))))))

@@ -7,6 +7,7 @@ pub mod Shows
 pub mod Sound
 pub mod Told
 pub mod Refusals
+pub mod Waits
 pub mod Cuts
 pub mod Promises
 pub mod Rfc

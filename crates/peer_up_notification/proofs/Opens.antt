@@ -92,7 +92,7 @@ one-message m g =
 
 -- ---- each answer of `open_at`
 module _ (s : List ℕ) (at : ℕ) where
-  pub brief-at : length s - at < 19 → openAt s at ≡ Broken (cutAt at)
+  pub brief-at : length s - at < 19 → openAt s at ≡ Broken (cutAt (length s) at 19)
   unfolding openAt
   brief-at h = rw (lt-ltb (length s - at) 19 h)
 
@@ -101,7 +101,7 @@ module _ (s : List ℕ) (at : ℕ) where
     unfolding openAt
     small-at h = rw (le-ltb (length s - at) 19 long, size-is, lt-ltb size 19 h)
 
-    pub cut-at : 19 ≤ size → length s - at < size → openAt s at ≡ Broken (cutAt at)
+    pub cut-at : 19 ≤ size → length s - at < size → openAt s at ≡ Broken (cutAt (length s) at size)
     unfolding openAt
     cut-at h l = rw (le-ltb (length s - at) 19 long, size-is, le-ltb size 19 h, lt-ltb (length s - at) size l)
 
@@ -129,8 +129,8 @@ judged s at = go (ltb (length s - at) 19) (ltb size 19) refl (ltb (length s - at
     size = numAt 2 s (at + 16)
 
     go : (a b : Bool) → ltb size 19 ≡ b → (d : Bool) → ltb (length s - at) size ≡ d
-        → Judged s at (pick a (Broken (cutAt at)) (pick b (Broken (refusal Number.BgpLength (at + 16)))
-        (pick d (Broken (cutAt at)) (Found (view at size) (cursor (at + size))))))
+        → Judged s at (pick a (Broken (cutAt (length s) at 19)) (pick b (Broken (refusal Number.BgpLength (at + 16)))
+        (pick d (Broken (cutAt (length s) at size)) (Found (view at size) (cursor (at + size))))))
     go true b hb d hd = omega arith
     go false true hb d hd = omega arith
     go false false hb true hd = omega arith

@@ -9,6 +9,7 @@ use Rattle.wire.specs.Bytes.{pick, be, Bytes}
 use Rattle.wire.proofs.Determined.{determined}
 use Rattle.wire.proofs.Arms.{number-of-name}
 use Rattle.wire.specs.Refuses.{Refuses}
+use Rattle.wire.specs.Waits.{WaitsBut, MissingTells}
 use Rattle.wire.specs.Exactly.{Sound, Complete, Told, Unique}
 use Rattle.wire.specs.Refusal.{refusal}
 use Rattle.wire.specs.Parts.{endFrom, joinAll}
@@ -27,11 +28,12 @@ use Rattle.peer_up_notification.specs.declared.PeerUpAnswer.{PeerUpAnswe
 use Rattle.peer_up_notification.specs.declared.PeerUpNotificationTlv.{PeerUpNotificationTlv}
 use Rattle.peer_up_notification.specs.declared.PeerUpTlvType.{PeerUpTlvType}
 use Rattle.peer_up_notification.specs.declared.PeerUpTlvType.the-variants.{Unknown}
-use Rattle.peer_up_notification.specs.Cuts.{CutIn}
+use Rattle.peer_up_notification.specs.Cuts.{CutIn, OpenBegun}
 use Rattle.peer_up_notification.proofs.Sound.{accepted, reading-of, same-reading}
 use Rattle.peer_up_notification.proofs.Told as ToldProofs
 use Rattle.peer_up_notification.proofs.Shows.{shown-all, ShowsParts, shows-parts}
 use Rattle.peer_up_notification.proofs.Refusals as Refusals
+use Rattle.peer_up_notification.proofs.Waits as Waiting
 use Rattle.peer_up_notification.proofs.Cuts as Cuts
 
 -- Every good reading that fits is accepted, and shown.
@@ -59,6 +61,15 @@ told-back = ToldProofs.told-back
 -- A refusal shows nothing but itself, and has one of the reader's numbers; each of these is given for some input.
 pub refuses : (afi : Afi) (peer : BmpPeerType) → Refuses (reader afi peer)
 refuses = Refusals.refuses
+
+-- Who waits for as many bytes as a Cut says are missing waits neither too long nor in vain, but that an OPEN whose header was not all there may be Cut
+-- once more, by the length that its header says.
+pub waits : (afi : Afi) (peer : BmpPeerType) → WaitsBut OpenBegun (reader afi peer)
+waits = Waiting.waits
+
+-- Bytes are missing exactly where the refusal is a Cut.
+pub missing-tells : (afi : Afi) (peer : BmpPeerType) → MissingTells (reader afi peer)
+missing-tells = Waiting.missing-tells
 
 -- A good reading of more TLVs than the table holds is refused with TooMany, at the first that has no room.
 pub too-many : (afi : Afi) (peer : BmpPeerType) (r : Reading) → Good afi r → length (join r) ≤ Number.limit → places < length (r .tlvs)
@@ -94,7 +105,7 @@ warnings-counted peer r = go (isLocRib (kindOf peer)) (some badTableName (map he
 
 -- A Cut is at the first part that is not whole, in the front, in one of the messages, or in a TLV.
 pub refuses-cut : (afi : Afi) (peer : BmpPeerType) (s : List ℕ) → Bytes s → readPeerUp afi peer s .refusal .number ≡ Number.Cut
-    → CutIn s (readPeerUp afi peer s .refusal .place)
+    → CutIn s (readPeerUp afi peer s .refusal)
 refuses-cut = Cuts.refuses-cut
 
 field-width : (afi : Afi) → skippedFor afi + addressFor afi ≡ 16

@@ -2,7 +2,8 @@
 use Prim.Native.Nat.{ℕ, _+_, _-_, _≤_, _<_}
 use mathlib.Core.Path.{_≡_, refl, sym, ap, _∙_}
 use mathlib.Core.List.{List, [], _∷_, _++_}
-use borrow.Author.Tests.{le-ltb}
+use native.Mathlib.Omega.{arith}
+use borrow.Author.Tests.{ltb-true, le-ltb}
 use lib.Dec.{ltb}
 use lib.ListN.{length, take, replicate}
 use Rattle.wire.specs.Number as Number
@@ -14,11 +15,13 @@ use Rattle.wire.specs.Tlv.{sizeOf}
 use Rattle.wire.specs.Walk.{walk, fill}
 use Rattle.wire.specs.Refuses.{OneOf, Refuses}
 use Rattle.wire.specs.declared.View.{View}
+use Rattle.wire.proofs.Cuts.{pick-by}
 use Rattle.wire.proofs.Walk.{BadIn, faults-in, read-too-many}
 use Rattle.wire.proofs.Refuses.{pick-in, Answered, is-empty, one-of, GivesEach, gives-too-long, walk-answered, refuses-from, bytes-are}
+use Rattle.layout.proofs.Cuts.{cut-one-of}
 use Rattle.models.specs.declared.Afi.{Afi}
 use Rattle.per_peer_type.specs.declared.BmpPeerType.{BmpPeerType}
-use Rattle.peer_up_notification.specs.Grammar.{Reading, join, Good, places}
+use Rattle.peer_up_notification.specs.Grammar.{widths, Reading, join, Good, places}
 use Rattle.peer_up_notification.specs.Shown.{refusedAnswer, sentAt, receivedAt, tlvsAt}
 use Rattle.peer_up_notification.specs.Read.{openAt, frontOf, step, kit, withTlvs, withReceived, withSent, readPeerUp, numbers, reader}
 use Rattle.peer_up_notification.specs.declared.PeerUpAnswer.{PeerUpAnswer}
@@ -52,8 +55,9 @@ module _ (afi : Afi) (peer : BmpPeerType) where
       let size = numAt 2 s (sentAt + 16) in
       let P : _ → Type 0 = λ o. Fine (withSent afi peer s o) in
       pick-in Fine (ltb Number.limit (length s)) (is-empty refl (one-of numbers Number.TooLong refl))
-      (pick-in Fine (ltb (length s) sentAt) (is-empty refl (one-of numbers Number.Cut refl))
-      (pick-in P (ltb (length s - sentAt) 19) (is-empty refl (one-of numbers Number.Cut refl))
+      (pick-by Fine (ltb (length s) sentAt)
+      (λ h. is-empty refl (cut-one-of numbers (one-of numbers Number.Cut refl) widths 0 (length s) (omega arith) (ltb-true (length s) sentAt h))) (λ h.
+      pick-in P (ltb (length s - sentAt) 19) (is-empty refl (one-of numbers Number.Cut refl))
       (pick-in P (ltb size 19) (is-empty refl (one-of numbers Number.BgpLength refl))
       (pick-in P (ltb (length s - sentAt) size) (is-empty refl (one-of numbers Number.Cut refl))
       (received-answered s (view sentAt size) (sentAt + size))))))

@@ -4,7 +4,7 @@ use mathlib.Core.Bool.{Bool, true, false}
 use mathlib.Core.List.{List, _++_, append-assoc}
 use Prim.Native.Nat.{ℕ, _≤_}
 use native.Mathlib.Omega.{arith}
-use borrow.Author.Tests.{ltb-false}
+use borrow.Author.Tests.{ltb-true, ltb-false}
 use lib.Dec.{ltb}
 use lib.ListN.{length, take, drop, length-drop, take-append-drop}
 use lib.Seq.{length-take-le}
@@ -21,6 +21,7 @@ use Rattle.wire.proofs.Bytes.{length-be, be-injective, num-lt, num-back, bytes-
 use Rattle.wire.proofs.Walk.{read-sound, read-fault}
 use Rattle.wire.proofs.Walk as Walk
 use Rattle.layout.specs.Layout.{cutIn}
+use Rattle.layout.proofs.Cuts.{cut-number}
 use Rattle.models.specs.declared.Afi.{Afi}
 use Rattle.per_peer_type.specs.declared.BmpPeerType.{BmpPeerType}
 use Rattle.peer_up_notification.specs.Grammar.{widths, join, skippedFor, Reading, Good, Fits}
@@ -84,7 +85,8 @@ accepted afi peer s e = go (ltb Number.limit (length s)) refl (ltb (length s) se
         → pick a (refusedAnswer (refusal Number.TooLong 0)) (pick b (refusedAnswer (cutIn widths 0 (length s))) (withSent afi peer s o)) .refusal .number ≡ Number.Good
         → Accepted s
     go true ha b hb o ho q = absurd (omega (arith, q))
-    go false ha true hb o ho q = absurd (omega (arith, q))
+    go false ha true hb o ho q =
+        absurd (omega (arith, cut-number widths 0 (length s) (omega arith) (ltb-true (length s) sentAt hb), q))
     go false ha false hb (Broken r) ho q = let f = broken-number s sentAt r ho in absurd (omega (arith, f, q))
     go false ha false hb (Found v c) ho q =
         receives v c (ltb-false _ _ ha) (ltb-false (length s) sentAt hb) ho (openAt s (c .at)) refl q

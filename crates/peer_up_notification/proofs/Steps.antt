@@ -15,6 +15,7 @@ use Rattle.wire.specs.TlvAt.{tlvOf}
 use Rattle.wire.specs.Walk as Walk
 use Rattle.wire.specs.Walk.{stop, bad, item, from}
 use Rattle.wire.specs.declared.Refusal.{Refusal}
+use Rattle.wire.proofs.Needs.{cut-from}
 use Rattle.cursor.specs.declared.Cursor.{Cursor}
 use Rattle.peer_up_notification.specs.Shown.{shownTlv, entry}
 use Rattle.peer_up_notification.specs.Read.{step, asStep, stepAt}
@@ -22,7 +23,7 @@ use Rattle.peer_up_notification.specs.declared.Step.the-variants.{Stop, 
 
 pub data Seen (s : List ℕ) : Walk.Step Tlv → Type 0 where
   none : length s ≤ 3 → Seen s stop
-  cut : Seen s (bad (cutAt 4))
+  cut : Seen s (bad (cutAt (length s) 4 (numAt 2 s 2)))
   whole : 4 ≤ length s → numAt 2 s 2 ≤ length s - 4 → Seen s (item (tlvOf s))
 
 pub see : (s : List ℕ) → Seen s (step s)
@@ -30,7 +31,7 @@ unfolding step
 see s = go (ltb (length s) 4) refl (ltb (length s - 4) (numAt 2 s 2)) refl
   where
     go : (a : Bool) → ltb (length s) 4 ≡ a → (b : Bool) → ltb (length s - 4) (numAt 2 s 2) ≡ b
-        → Seen s (pick a stop (pick b (bad (cutAt 4)) (item (tlvOf s))))
+        → Seen s (pick a stop (pick b (bad (cutAt (length s) 4 (numAt 2 s 2))) (item (tlvOf s))))
     go true h b k = let l = ltb-true (length s) 4 h in none (omega arith)
     go false h true k = cut
     go false h false k = whole (ltb-false (length s) 4 h) (ltb-false (length s - 4) (numAt 2 s 2) k)
@@ -40,7 +41,7 @@ pub none-of : (s : List ℕ) → length s ≤ 3 → step s ≡ stop
 unfolding step
 none-of s h = rw (lt-ltb (length s) 4 (omega arith))
 
-cut-of : (s : List ℕ) → 4 ≤ length s → length s - 4 < numAt 2 s 2 → step s ≡ bad (cutAt 4)
+cut-of : (s : List ℕ) → 4 ≤ length s → length s - 4 < numAt 2 s 2 → step s ≡ bad (cutAt (length s) 4 (numAt 2 s 2))
 unfolding step
 cut-of s h k = rw (le-ltb (length s) 4 h, lt-ltb (length s - 4) (numAt 2 s 2) k)
 
@@ -66,7 +67,7 @@ stopped s (whole h k) q = let z : _≡_ {A = ℕ} 0 1 = cc in absurd (omega arit
 
 pub numbered : (s : List ℕ) (r : Refusal) {x : Walk.Step Tlv} → Seen s x → x ≡ bad r → 0 < r .number
 numbered s r (none h) q = let z : _≡_ {A = ℕ} 0 1 = cc in absurd (omega arith)
-numbered s r cut q = let e : cutAt 4 ≡ r = cc in subst (λ (j : Refusal). 0 < j .number) e (omega arith)
+numbered s r cut q = let e : cutAt (length s) 4 (numAt 2 s 2) ≡ r = cc in subst (λ (j : Refusal). 0 < j .number) e (omega arith)
 numbered s r (whole h k) q = let z : _≡_ {A = ℕ} 0 1 = cc in absurd (omega arith)
 
 -- ---- each answer of `step_at`
@@ -78,10 +79,10 @@ module _ (s : List ℕ) (at : ℕ) where
     long′ : 4 ≤ length (drop at s)
     long′ = simp length-drop long
 
-    pub cut-at : length s - place < size → stepAt s at ≡ Bad (cutAt place)
+    pub cut-at : length s - place < size → stepAt s at ≡ Bad (cutAt (length s) place size)
     cut-at h =
         ap (asStep at) (cut-of (drop at s) long′ (rw (length-drop, size-is) (omega arith)))
-        ∙ ap (λ (p : ℕ). Bad (cutAt p)) (sym place-is)
+        ∙ ap Bad (ap (λ (w : ℕ). from at (cutAt (length (drop at s)) 4 w)) size-is ∙ cut-from s at 4 place size place-is)
 
     pub whole-at : (kind : ℕ) → numAt 2 (drop at s) 0 ≡ kind → size ≤ length s - place
         → stepAt s at ≡ Whole kind size place (cursor (place + size))

@@ -38,9 +38,9 @@ use Rattle.peer_up_notification.specs.declared.Step.the-variants.{Stop, 
 -- a whole BGP message at a place, whose own length is judged before how much is left of it
 unfoldable pub openAt : List ℕ → ℕ → Open
 openAt s at =
-    pick (ltb (length s - at) 19) (Broken (cutAt at))
+    pick (ltb (length s - at) 19) (Broken (cutAt (length s) at 19))
     (pick (ltb (numAt 2 s (at + 16)) 19) (Broken (refusal Number.BgpLength (at + 16)))
-    (pick (ltb (length s - at) (numAt 2 s (at + 16))) (Broken (cutAt at))
+    (pick (ltb (length s - at) (numAt 2 s (at + 16))) (Broken (cutAt (length s) at (numAt 2 s (at + 16))))
     (Found (view at (numAt 2 s (at + 16))) (cursor (at + numAt 2 s (at + 16))))))
 
 -- both messages and the place behind them, as the code looks for them before it walks
@@ -76,7 +76,7 @@ frontOf afi s sent received =
 unfoldable pub step : List ℕ → Walk.Step Tlv
 step s =
     pick (ltb (length s) 4) stop
-    (pick (ltb (length s - 4) (numAt 2 s 2)) (bad (cutAt 4)) (item (tlvOf s)))
+    (pick (ltb (length s - 4) (numAt 2 s 2)) (bad (cutAt (length s) 4 (numAt 2 s 2))) (item (tlvOf s)))
 
 -- the widths of the parts of the TLV at the front
 abbrev pub widthsIn : List ℕ → List ℕ

@@ -4,7 +4,7 @@ use mathlib.Core.Bool.{Bool, true, false}
 use mathlib.Core.Path.{_≡_, refl, sym, ap, _∙_, subst}
 use mathlib.Core.List.{List, _++_}
 use native.Mathlib.Omega.{arith}
-use borrow.Author.Tests.{ltb-false, le-ltb}
+use borrow.Author.Tests.{ltb-true, ltb-false, le-ltb}
 use lib.Dec.{ltb}
 use lib.ListN.{length, take, drop, length-append}
 use lib.Seq.{take-at, drop-at, drop-drop}
@@ -13,6 +13,7 @@ use Rattle.wire.specs.Bytes.{pick, be, value, numAt, numberAt, Bytes}
 use Rattle.wire.specs.Refusal.{refusal}
 use Rattle.wire.proofs.Bytes.{value-be, num-lt, num-back, part-back}
 use Rattle.layout.specs.Layout.{cutIn}
+use Rattle.layout.proofs.Cuts.{cut-number}
 use Rattle.per_peer_header.specs.Grammar.{widths, Reading, addressBytes, asBytes, join, Good}
 use Rattle.per_peer_header.specs.Shown.{shown, refused}
 use Rattle.per_peer_header.specs.Read.{addressField, asField, partsOf, readPerPeerHeader}
@@ -97,7 +98,8 @@ accepted s e = go (ltb Number.limit (length s)) refl (ltb 3 (numberAt 1 s 0)) re
         → Accepted s
     go true ha b hb c hc q = no q
     go false ha true hb c hc q = no q
-    go false ha false hb true hc q = no q
+    go false ha false hb true hc q =
+        absurd (omega (arith, cut-number widths 0 (length s) (omega arith) (ltb-true (length s) 42 hc), q))
     go false ha false hb false hc q =
         let long = ltb-false (length s) 42 hc in
         record {

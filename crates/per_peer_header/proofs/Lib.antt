@@ -4,6 +4,7 @@ pub mod Fields
 pub mod Laws
 pub mod Told
 pub mod Refusals
+pub mod Waits
 pub mod Promises
 pub mod Rfc
 pub mod Specimens

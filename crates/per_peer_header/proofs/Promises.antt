@@ -8,14 +8,15 @@ use borrow.Author.Tests.{lt-ltb, le-ltb}
 use lib.ListN.{length, take, drop}
 use Rattle.wire.specs.Number as Number
 use Rattle.wire.specs.Bytes.{pick, numAt, numberAt, Octets, be}
-use Rattle.wire.specs.Refusal.{refusal, noRefusal, cutAt}
+use Rattle.wire.specs.Refusal.{refusal, noRefusal}
 use Rattle.wire.proofs.Bytes.{num-lt, bytes-drop, number-is}
 use Rattle.wire.proofs.Views.{octets-part}
 use Rattle.wire.proofs.Determined.{determined}
 use Rattle.wire.specs.Lacking.{FirstLacking}
 use Rattle.wire.specs.Refuses.{Refuses}
+use Rattle.wire.specs.Waits.{Waits, MissingTells}
 use Rattle.wire.specs.Exactly.{Sound, Complete, Told, Unique}
-use Rattle.layout.specs.Layout.{firstCut}
+use Rattle.layout.specs.Layout.{cutIn}
 use Rattle.layout.proofs.Promises.{first-lacking}
 use Rattle.per_peer_header.specs.Grammar.{widths, Reading, Skipped, addressBytes, join, grammar, parts, Good}
 use Rattle.models.specs.Warnings.{countOnes}
@@ -28,6 +29,7 @@ use Rattle.per_peer_header.proofs.Fields.{address-fits, as-fits, fields
 use Rattle.per_peer_header.proofs.Laws.{length-join, parts-join, join-parts, Accepted, accepted, shows-parts}
 use Rattle.per_peer_header.proofs.Told as ToldProofs
 use Rattle.per_peer_header.proofs.Refusals as Refusals
+use Rattle.per_peer_header.proofs.Waits as Waiting
 
 -- What the reader accepts has a good reading, which it shows.
 pub sound : Sound reader
@@ -81,6 +83,14 @@ unseen = ToldProofs.unseen
 pub refuses : Refuses reader
 refuses = Refusals.refuses
 
+-- Who waits for as many bytes as a Cut says are missing waits neither too long nor in vain.
+pub waits : Waits reader
+waits = Waiting.waits
+
+-- Bytes are missing exactly where the refusal is a Cut.
+pub missing-tells : MissingTells reader
+missing-tells = Waiting.missing-tells
+
 -- No input has two readings.
 pub unique : Unique grammar
 unique r q g h e = sym (parts-join r g) ∙ ap partsOf e ∙ parts-join q h
@@ -97,9 +107,9 @@ module _ (s : List ℕ) (short : length s ≤ Number.limit) where
       let e : numberAt 1 s 0 ≡ numAt 1 s 0 = number-is 1 s 0 (omega arith) in
       rw (le-ltb Number.limit (length s) short, e, lt-ltb 3 (numAt 1 s 0) unknown)
 
-  -- A header that is cut is refused at the first field that lacks bytes.
+  -- A header that is cut is refused at the first field that lacks bytes, with as many missing as it lacks.
   pub refuses-cut : length s < 42 → numberAt 1 s 0 ≤ 3
-      → (readPerPeerHeader s ≡ refused (cutAt (firstCut widths 0 (length s)))) × FirstLacking widths 0 (length s) (firstCut widths 0 (length s))
+      → (readPerPeerHeader s ≡ refused (cutIn widths 0 (length s))) × FirstLacking widths 0 (length s) (cutIn widths 0 (length s))
   refuses-cut cut known = (
     rw (le-ltb Number.limit (length s) short, le-ltb 3 (numberAt 1 s 0) known, lt-ltb (length s) 42 cut),
     first-lacking widths 0 (length s) (omega arith) (omega arith),

@@ -5,7 +5,7 @@ use mathlib.Core.Path.{_≡_, refl, _∙_}
 use native.Mathlib.Omega.{arith}
 use lib.ListN.{length, replicate}
 use Rattle.wire.specs.Bytes.{be, value, numberAt}
-use Rattle.wire.specs.Refusal.{cutAt}
+use Rattle.wire.specs.Refusal.{lacking}
 use Rattle.models.specs.Address.{unspecified}
 use Rattle.models.specs.declared.Afi.the-variants.{Ipv4, Ipv6}
 use Rattle.models.specs.declared.IpAddr.{IpAddr}
@@ -36,9 +36,9 @@ pub layouts-are-read : map seen ((0, 0x20) ∷ (1, 0x00) ∷ (2, 0xA0) ∷ (0, 0
 unfolding be value
 layouts-are-read = refl
 
--- ---- the places of a Cut
-pub cut-in-the-address : (s : List ℕ) → length s ≡ 25 → numberAt 1 s 0 ≤ 3 → readPerPeerHeader s ≡ refused (cutAt 10)
+-- ---- the places of a Cut, and what is missing there
+pub cut-in-the-address : (s : List ℕ) → length s ≡ 25 → numberAt 1 s 0 ≤ 3 → readPerPeerHeader s ≡ refused (lacking 10 1)
 cut-in-the-address s n known = refuses-cut s (omega arith) (omega arith) known .0 ∙ rw n
 
-pub cut-in-the-as : (s : List ℕ) → length s ≡ 29 → numberAt 1 s 0 ≤ 3 → readPerPeerHeader s ≡ refused (cutAt 26)
+pub cut-in-the-as : (s : List ℕ) → length s ≡ 29 → numberAt 1 s 0 ≤ 3 → readPerPeerHeader s ≡ refused (lacking 26 1)
 cut-in-the-as s n known = refuses-cut s (omega arith) (omega arith) known .0 ∙ rw n

@@ -4,6 +4,7 @@
 use mathlib.Core.Path.{refl}
 use Rattle.wire.specs.Exactly.{Exactly}
 use Rattle.wire.specs.Refuses.{Refuses}
+use Rattle.wire.specs.Waits.{WaitsBut, Waits, MissingTells}
 use Rattle.wire.proofs.Exactly.{exactly-from}
 use Rattle.models.specs.declared.Afi.{Afi}
 use Rattle.models.specs.declared.AsnLength.{AsnLength}
@@ -26,6 +27,7 @@ use Rattle.stats_report.specs.Read as Statistics
 use Rattle.stats_report.proofs.Promises as StatisticsPromises
 use Rattle.peer_down_notification.specs.Read as PeerDown
 use Rattle.peer_down_notification.proofs.Promises as PeerDownPromises
+use Rattle.peer_up_notification.specs.Cuts.{OpenBegun}
 use Rattle.peer_up_notification.specs.Read as PeerUp
 use Rattle.peer_up_notification.proofs.Promises as PeerUpPromises
 use Rattle.openbmp.specs.Read as OpenBmp
@@ -108,3 +110,71 @@ peer-up-refuses = PeerUpPromises.refuses
 
 pub open-bmp-refuses : Refuses OpenBmp.reader
 open-bmp-refuses = OpenBmpPromises.refuses
+
+-- ---- what is missing in a Cut: who waits for as many bytes waits neither too long nor in vain; an OPEN may be Cut twice at one place
+pub common-header-waits : Waits CommonHeader.reader
+common-header-waits = CommonHeaderPromises.waits
+
+pub per-peer-header-waits : Waits PerPeerHeader.reader
+per-peer-header-waits = PerPeerHeaderPromises.waits
+
+pub message-waits : Waits Message.reader
+message-waits = MessagePromises.waits
+
+pub initiation-waits : Waits Initiation.reader
+initiation-waits = InitiationPromises.waits
+
+pub termination-waits : Waits Termination.reader
+termination-waits = TerminationPromises.waits
+
+pub monitoring-waits : (width : AsnLength) (peer : BmpPeerType) → Waits (Monitoring.reader width peer)
+monitoring-waits = MonitoringPromises.waits
+
+pub mirroring-waits : Waits Mirroring.reader
+mirroring-waits = MirroringPromises.waits
+
+pub statistics-waits : Waits Statistics.reader
+statistics-waits = StatisticsPromises.waits
+
+pub peer-down-waits : Waits PeerDown.reader
+peer-down-waits = PeerDownPromises.waits
+
+pub peer-up-waits : (afi : Afi) (peer : BmpPeerType) → WaitsBut OpenBegun (PeerUp.reader afi peer)
+peer-up-waits = PeerUpPromises.waits
+
+pub open-bmp-waits : Waits OpenBmp.reader
+open-bmp-waits = OpenBmpPromises.waits
+
+-- ---- and that a refusal says that bytes are missing exactly where it is a Cut
+pub common-header-missing-tells : MissingTells CommonHeader.reader
+common-header-missing-tells = CommonHeaderPromises.missing-tells
+
+pub per-peer-header-missing-tells : MissingTells PerPeerHeader.reader
+per-peer-header-missing-tells = PerPeerHeaderPromises.missing-tells
+
+pub message-missing-tells : MissingTells Message.reader
+message-missing-tells = MessagePromises.missing-tells
+
+pub initiation-missing-tells : MissingTells Initiation.reader
+initiation-missing-tells = InitiationPromises.missing-tells
+
+pub termination-missing-tells : MissingTells Termination.reader
+termination-missing-tells = TerminationPromises.missing-tells
+
+pub monitoring-missing-tells : (width : AsnLength) (peer : BmpPeerType) → MissingTells (Monitoring.reader width peer)
+monitoring-missing-tells = MonitoringPromises.missing-tells
+
+pub mirroring-missing-tells : MissingTells Mirroring.reader
+mirroring-missing-tells = MirroringPromises.missing-tells
+
+pub statistics-missing-tells : MissingTells Statistics.reader
+statistics-missing-tells = StatisticsPromises.missing-tells
+
+pub peer-down-missing-tells : MissingTells PeerDown.reader
+peer-down-missing-tells = PeerDownPromises.missing-tells
+
+pub peer-up-missing-tells : (afi : Afi) (peer : BmpPeerType) → MissingTells (PeerUp.reader afi peer)
+peer-up-missing-tells = PeerUpPromises.missing-tells
+
+pub open-bmp-missing-tells : MissingTells OpenBmp.reader
+open-bmp-missing-tells = OpenBmpPromises.missing-tells

@@ -10,6 +10,7 @@ use Rattle.wire.proofs.Exactly.{not-too-long}
 use Rattle.wire.proofs.Walk.{read-complete, each-at, read-accepted, read-too-many}
 use Rattle.wire.proofs.Walk as Walk
 use Rattle.wire.specs.Refuses.{Refuses}
+use Rattle.wire.specs.Waits.{Waits, MissingTells}
 use Rattle.wire.specs.Exactly.{Sound, Complete, Told, Unique}
 use Rattle.wire.specs.Number as Number
 use Rattle.wire.specs.Refusal.{refusal}
@@ -27,6 +28,7 @@ use Rattle.route_mirroring.proofs.Laws.{faults, laws, tails}
 use Rattle.route_mirroring.proofs.Shows.{shows-of, ViewAt, code-told, view-at}
 use Rattle.route_mirroring.proofs.Told as ToldProofs
 use Rattle.route_mirroring.proofs.Refusals as Refusals
+use Rattle.route_mirroring.proofs.Waits as Waiting
 use Rattle.route_mirroring.proofs.Cuts.{cuts}
 
 -- What the reader accepts has a good reading that fits, and it shows that reading.
@@ -48,6 +50,14 @@ told-back = ToldProofs.told-back
 -- A refusal shows nothing but itself, and has one of the reader's numbers; each of these is given for some input.
 pub refuses : Refuses reader
 refuses = Refusals.refuses
+
+-- Who waits for as many bytes as a Cut says are missing waits neither too long nor in vain.
+pub waits : Waits reader
+waits = Waiting.waits
+
+-- Bytes are missing exactly where the refusal is a Cut.
+pub missing-tells : MissingTells reader
+missing-tells = Waiting.missing-tells
 
 -- A good reading of more TLVs than the table holds is refused with TooMany, at the first that has no room.
 pub too-many : (r : Reading) → Good r → length (join r) ≤ Number.limit → places < length (r .tlvs)
@@ -71,7 +81,7 @@ pub code-number : (n : ℕ) → n ≤ 1 → codeOf (infoOf n) ≡ n
 code-number = code-told
 
 -- A Cut is at the first part that is not whole, behind TLVs that are.
-pub refuses-cut : (s : List ℕ) → Bytes s → readMirroring s .refusal .number ≡ Number.Cut → CutAfter put ReadTlv sizeOf widthsIn 0 s (readMirroring s .refusal .place)
+pub refuses-cut : (s : List ℕ) → Bytes s → readMirroring s .refusal .number ≡ Number.Cut → CutAfter put ReadTlv sizeOf widthsIn 0 s (readMirroring s .refusal)
 refuses-cut =
     body-cut kit laws widthsIn (λ z. cuts-in (widthsIn z) (length z) (step z) (cuts z)) reader _ answer (λ s. refl) refl
     (λ n at table z. refl) (λ r. refl)

@@ -15,6 +15,7 @@ use Rattle.cursor.specs.Read.{cursor}
 use Rattle.wire.specs.Walk as Walk
 use Rattle.wire.specs.Walk.{stop, bad, item, from}
 use Rattle.wire.specs.declared.Refusal.{Refusal}
+use Rattle.wire.proofs.Needs.{cut-from}
 use Rattle.cursor.specs.declared.Cursor.{Cursor}
 use Rattle.route_mirroring.specs.Grammar.{Tlv, sizeOf}
 use Rattle.route_mirroring.specs.Shown.{infoOf, entry}
@@ -52,9 +53,9 @@ unfolding messageStep
 see-message s l k = go (ltb (numAt 2 s 2) 19) refl (ltb (length s - 4) (numAt 2 s 2)) refl
   where
     go : (a : Bool) → ltb (numAt 2 s 2) 19 ≡ a → (b : Bool) → ltb (length s - 4) (numAt 2 s 2) ≡ b
-        → Seen s (pick a (bad (refusal Number.BgpLength 2)) (pick b (bad (cutAt 4)) (item (messageOf s))))
+        → Seen s (pick a (bad (refusal Number.BgpLength 2)) (pick b (bad (cutAt (length s) 4 (numAt 2 s 2))) (item (messageOf s))))
     go true ha b hb = fault (refusal Number.BgpLength 2) (omega arith)
-    go false ha true hb = fault (cutAt 4) (omega arith)
+    go false ha true hb = fault (cutAt (length s) 4 (numAt 2 s 2)) (omega arith)
     go false ha false hb = message (record { long = l; kind-is = k; has-header = ltb-false _ _ ha; there = ltb-false _ _ hb })
 
 see-information : (s : List ℕ) → numAt 2 s 0 ≡ 1 → Seen s (informationStep s)
@@ -62,8 +63,8 @@ unfolding informationStep
 see-information s k = go (ltb (length s - 4) 2) refl (ltb 1 (numAt 2 s 4)) refl
   where
     go : (a : Bool) → ltb (length s - 4) 2 ≡ a → (b : Bool) → ltb 1 (numAt 2 s 4) ≡ b
-        → Seen s (pick a (bad (cutAt 4)) (pick b (bad (refusal Number.UnknownKind 4)) (item (informationOf s))))
-    go true ha b hb = fault (cutAt 4) (omega arith)
+        → Seen s (pick a (bad (cutAt (length s) 4 2)) (pick b (bad (refusal Number.UnknownKind 4)) (item (informationOf s))))
+    go true ha b hb = fault (cutAt (length s) 4 2) (omega arith)
     go false ha true hb = fault (refusal Number.UnknownKind 4) (omega arith)
     go false ha false hb = info (record { kind-is = k; there = ltb-false _ _ ha; known = ltb-false _ _ hb })
 
@@ -154,9 +155,10 @@ module _ (s : List ℕ) (at size : ℕ) (size-is : size ≡ numAt 2 (drop at s) 
   unfolding messageStep
   small-at h = rw (← size-is, lt-ltb size 19 h)
 
-  pub cut-at : 19 ≤ size → length s - place < size → asStep at (messageStep (drop at s)) ≡ Bad (cutAt place)
+  pub cut-at : 19 ≤ size → length s - place < size → asStep at (messageStep (drop at s)) ≡ Bad (cutAt (length s) place size)
   unfolding messageStep
-  cut-at h l = rw (← size-is, le-ltb size 19 h, lt-ltb (length (drop at s) - 4) size (simp length-drop (omega arith)), place-is)
+  cut-at h l =
+      rw (← size-is, le-ltb size 19 h, lt-ltb (length (drop at s) - 4) size (simp length-drop (omega arith))) (ap Bad (cut-from s at 4 place size place-is))
 
   pub message-there : 19 ≤ size → size ≤ length s - place
       → asStep at (messageStep (drop at s)) ≡ Whole 0 size place (cursor (place + size))
@@ -166,9 +168,9 @@ module _ (s : List ℕ) (at size : ℕ) (size-is : size ≡ numAt 2 (drop at s) 
       rw (← size-is, le-ltb size 19 h, le-ltb (length (drop at s) - 4) size (simp length-drop (omega arith)))
       (λ i. Whole 0 size (sym place-is i) (cursor (end-is i)))
 
-  pub short-at : length s - place < 2 → asStep at (informationStep (drop at s)) ≡ Bad (cutAt place)
+  pub short-at : length s - place < 2 → asStep at (informationStep (drop at s)) ≡ Bad (cutAt (length s) place 2)
   unfolding informationStep
-  short-at l = rw (lt-ltb (length (drop at s) - 4) 2 (simp length-drop (omega arith)), place-is)
+  short-at l = rw (lt-ltb (length (drop at s) - 4) 2 (simp length-drop (omega arith))) (ap Bad (cut-from s at 4 place 2 place-is))
 
   module _ (there : 2 ≤ length s - place) (code : ℕ) (code-is : numAt 2 (drop at s) 4 ≡ code) where
     there′ : 2 ≤ length (drop at s) - 4

@@ -31,12 +31,12 @@ informationOf s = information (numAt 2 s 2) (numAt 2 s 4)
 unfoldable pub messageStep : List ℕ → Walk.Step Tlv
 messageStep s =
     pick (ltb (numAt 2 s 2) 19) (bad (refusal Number.BgpLength 2))
-    (pick (ltb (length s - 4) (numAt 2 s 2)) (bad (cutAt 4)) (item (messageOf s)))
+    (pick (ltb (length s - 4) (numAt 2 s 2)) (bad (cutAt (length s) 4 (numAt 2 s 2))) (item (messageOf s)))
 
 -- information: the length has no say
 unfoldable pub informationStep : List ℕ → Walk.Step Tlv
 informationStep s =
-    pick (ltb (length s - 4) 2) (bad (cutAt 4))
+    pick (ltb (length s - 4) 2) (bad (cutAt (length s) 4 2))
     (pick (ltb 1 (numAt 2 s 4)) (bad (refusal Number.UnknownKind 4)) (item (informationOf s)))
 
 -- while more than 4 bytes are left: the type, and then what it asks for

@@ -70,7 +70,7 @@ module _ (s : List ℕ) (width : AsnLength) (t : BmpPeerType) where
 
       go : (a : Bool) → ltb Number.limit (length s) ≡ a → (b : Bool) → ltb (length s) 19 ≡ b
           → refusalOf (pick a (RouteMonitoringAnswer.Refused (refusal Number.TooLong 0))
-          (pick b (RouteMonitoringAnswer.Refused (cutAt 0)) (goodOf width t (length s)))) .number ≡ Number.Good
+          (pick b (RouteMonitoringAnswer.Refused (cutAt (length s) 0 19)) (goodOf width t (length s)))) .number ≡ Number.Good
           → Accepted s
       go true ha b hb q = no q
       go false ha true hb q = no q

@@ -11,6 +11,7 @@ use Rattle.wire.specs.View.{view, viewed}
 use Rattle.wire.proofs.Views.{viewed-inside}
 use Rattle.wire.proofs.Determined.{determined}
 use Rattle.wire.specs.Refuses.{Refuses}
+use Rattle.wire.specs.Waits.{Waits, MissingTells}
 use Rattle.wire.specs.Exactly.{Sound, Complete, Told, Unique}
 use Rattle.models.specs.Warnings.{countOnes}
 use Rattle.models.specs.declared.AsnLength.{AsnLength}
@@ -23,6 +24,7 @@ use Rattle.route_monitoring.specs.Read.{readRouteMonitoring, reader}
 use Rattle.route_monitoring.specs.declared.RouteMonitoringAnswer.{RouteMonitoringAnswer}
 use Rattle.route_monitoring.proofs.Laws.{length-join, parts-join, join-parts, parts-good, accepted, shows-all}
 use Rattle.route_monitoring.proofs.Refusals as Refusals
+use Rattle.route_monitoring.proofs.Waits as Waiting
 
 -- a view of all that there is shows it
 pub viewed-all : (s : List ℕ) → viewed s (view 0 (length s)) ≡ s
@@ -51,6 +53,14 @@ module _ (width : AsnLength) (t : BmpPeerType) where
 -- A refusal shows nothing but itself, and has one of the reader's numbers; each of these is given for some input.
 pub refuses : (width : AsnLength) (t : BmpPeerType) → Refuses (reader width t)
 refuses = Refusals.refuses
+
+-- Who waits for as many bytes as a Cut says are missing waits neither too long nor in vain.
+pub waits : (width : AsnLength) (t : BmpPeerType) → Waits (reader width t)
+waits = Waiting.waits
+
+-- Bytes are missing exactly where the refusal is a Cut.
+pub missing-tells : (width : AsnLength) (t : BmpPeerType) → MissingTells (reader width t)
+missing-tells = Waiting.missing-tells
 
 -- No input has two readings.
 pub unique : Unique grammar

@@ -17,7 +17,7 @@ use Rattle.route_monitoring.specs.declared.RouteMonitoringAnswer.{RouteM
 abbrev pub readRouteMonitoring : AsnLength → BmpPeerType → List ℕ → RouteMonitoringAnswer
 readRouteMonitoring width t s =
     pick (ltb Number.limit (length s)) (RouteMonitoringAnswer.Refused (refusal Number.TooLong 0))
-    (pick (ltb (length s) 19) (RouteMonitoringAnswer.Refused (cutAt 0)) (goodOf width t (length s)))
+    (pick (ltb (length s) 19) (RouteMonitoringAnswer.Refused (cutAt (length s) 0 19)) (goodOf width t (length s)))
 
 -- the numbers that it refuses with
 abbrev pub numbers : List ℕ

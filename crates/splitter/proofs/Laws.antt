@@ -9,7 +9,7 @@ use lib.ListN.{length, take, drop, take-append-drop}
 use lib.Seq.{take-at, drop-at}
 use Rattle.wire.specs.Number as Number
 use Rattle.wire.specs.Bytes.{pick}
-use Rattle.wire.specs.Refusal.{refusal, cutAt}
+use Rattle.wire.specs.Refusal.{refusal, lacking, cutAt}
 use Rattle.wire.specs.View.{view}
 use Rattle.common_header.specs.Grammar as Header
 use Rattle.common_header.specs.Shown as HeaderShown
@@ -19,6 +19,12 @@ use Rattle.splitter.specs.Grammar.{Reading, headerOf}
 use Rattle.splitter.specs.Shown.{refusalOf}
 use Rattle.splitter.specs.Read.{judged, afterHeader}
 use Rattle.splitter.specs.declared.SplitAnswer.{SplitAnswer}
+
+-- What is missing of the message is what is missing behind its header.
+pub missing-behind : (there n : ℕ) → 6 ≤ there → 6 ≤ n → cutAt there 6 (n - 6) ≡ lacking 6 (n - there)
+missing-behind there n six least =
+    let missing-is : n - 6 - (there - 6) ≡ n - there = omega arith in
+    λ i. lacking 6 (missing-is i)
 
 -- a length that is accepted in an input of this length
 pub record Fitting (there n : ℕ) : Type 0 where
@@ -41,7 +47,7 @@ judged-good there h e = go (ltb n 6) refl (ltb Number.limit n) refl (ltb there n
 
     go : (a : Bool) → ltb n 6 ≡ a → (b : Bool) → ltb Number.limit n ≡ b → (c : Bool) → ltb there n ≡ c
         → refusalOf (pick a (SplitAnswer.Refused (refusal Number.BadMessageLength 1)) (pick b (SplitAnswer.Refused (refusal Number.TooLong 1))
-        (pick c (SplitAnswer.Refused (cutAt 6)) (SplitAnswer.Message h (view 0 n))))) .number ≡ Number.Good
+        (pick c (SplitAnswer.Refused (lacking 6 (n - there))) (SplitAnswer.Message h (view 0 n))))) .number ≡ Number.Good
         → Fitting there n
     go true ha b hb c hc q = no q
     go false ha true hb c hc q = no q

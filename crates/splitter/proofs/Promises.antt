@@ -11,6 +11,7 @@ use Rattle.wire.specs.View.{view, viewed}
 use Rattle.wire.proofs.Views.{viewed-inside}
 use Rattle.wire.proofs.Determined.{determined}
 use Rattle.wire.specs.Refuses.{Refuses}
+use Rattle.wire.specs.Waits.{Waits, MissingTells}
 use Rattle.wire.specs.Exactly.{Sound, Complete, Told, Unique}
 use Rattle.common_header.specs.Grammar as Header
 use Rattle.common_header.specs.Shown as HeaderShown
@@ -25,6 +26,7 @@ use Rattle.splitter.specs.declared.SplitAnswer.{SplitAnswer}
 use Rattle.splitter.proofs.Laws.{Fitting, fitting-shown, judged-good, header-accepted, cut-at, header-cut, cut-header}
 use Rattle.splitter.proofs.Told as ToldProofs
 use Rattle.splitter.proofs.Refusals as Refusals
+use Rattle.splitter.proofs.Waits as Waiting
 
 -- What the splitter accepts is a whole message and the rest of the stream, and it shows that message.
 pub sound : Sound reader
@@ -73,6 +75,14 @@ told-back = ToldProofs.told-back
 -- A refusal shows nothing but itself, and has one of the reader's numbers; each of these is given for some input.
 pub refuses : Refuses reader
 refuses = Refusals.refuses
+
+-- Who waits for as many bytes as a Cut says are missing waits neither too long nor in vain.
+pub waits : Waits reader
+waits = Waiting.waits
+
+-- Bytes are missing exactly where the refusal is a Cut.
+pub missing-tells : MissingTells reader
+missing-tells = Waiting.missing-tells
 
 -- No stream has two first messages.
 pub unique : Unique grammar

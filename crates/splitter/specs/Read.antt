@@ -1,11 +1,11 @@
 -- What the splitter answers, for every input.
-use Prim.Native.Nat.{ℕ}
+use Prim.Native.Nat.{ℕ, _-_}
 use mathlib.Core.List.{List, [], _∷_}
 use lib.ListN.{length}
 use lib.Dec.{ltb}
 use Rattle.wire.specs.Number as Number
 use Rattle.wire.specs.Bytes.{pick}
-use Rattle.wire.specs.Refusal.{refusal, cutAt}
+use Rattle.wire.specs.Refusal.{refusal, lacking}
 use Rattle.wire.specs.View.{view}
 use Rattle.wire.specs.Exactly.{Reader}
 use Rattle.splitter.specs.Told as Told
@@ -16,12 +16,12 @@ use Rattle.common_header.specs.declared.BmpCommonHeader.{BmpCommonHeader}
 use Rattle.common_header.specs.declared.CommonHeaderAnswer.{CommonHeaderAnswer}
 use Rattle.splitter.specs.declared.SplitAnswer.{SplitAnswer}
 
--- a good header in an input of this length: its length is 6 to the limit, and so many bytes are there
+-- a good header in an input of this length: its length is 6 to the limit, and so many bytes are there; those that it says more are missing
 abbrev pub judged : ℕ → BmpCommonHeader → SplitAnswer
 judged there h =
     pick (ltb (h .«msg_len») 6) (SplitAnswer.Refused (refusal Number.BadMessageLength 1))
     (pick (ltb Number.limit (h .«msg_len»)) (SplitAnswer.Refused (refusal Number.TooLong 1))
-    (pick (ltb there (h .«msg_len»)) (SplitAnswer.Refused (cutAt 6)) (SplitAnswer.Message h (view 0 (h .«msg_len»)))))
+    (pick (ltb there (h .«msg_len»)) (SplitAnswer.Refused (lacking 6 (h .«msg_len» - there))) (SplitAnswer.Message h (view 0 (h .«msg_len»)))))
 
 -- the common header's refusals come first, whatever they are
 abbrev pub afterHeader : ℕ → CommonHeaderAnswer → SplitAnswer

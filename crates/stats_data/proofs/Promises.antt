@@ -59,7 +59,7 @@ complete v g s at r e =
     }
 
 -- Where fewer bytes are left, the whole value is Cut at its start.
-pub refuses-cut : (size : ℕ) (s : List ℕ) (at : ℕ) → length s - at < size → readData size s at ≡ ReadData.Cut (cutAt at)
+pub refuses-cut : (size : ℕ) (s : List ℕ) (at : ℕ) → length s - at < size → readData size s at ≡ ReadData.Cut (cutAt (length s) at size)
 refuses-cut size s at h = rw (lt-leb size (length s - at) h)
 
 -- No bytes are those of two good values.

@@ -103,7 +103,7 @@ module _ (size : ℕ) (s : List ℕ) (at : ℕ) where
   data-good v e afi safi n h p q r =
       (λ i. ReadData.Good (p i) (q i) (r i) (cursor (at + size))) ∙ sym (rw (le-leb size (length s - at) h)) ∙ ap (wholeData size s at) e
 
-  pub data-cut : (r : Refusal) → length s - at < size → r ≡ cutAt at → ReadData.Cut r ≡ readData size s at
+  pub data-cut : (r : Refusal) → length s - at < size → r ≡ cutAt (length s) at size → ReadData.Cut r ≡ readData size s at
   data-cut r h p = ap ReadData.Cut p ∙ sym (rw (lt-leb size (length s - at) h))
 
   -- and the other way
@@ -121,20 +121,20 @@ module _ (size : ℕ) (s : List ℕ) (at : ℕ) where
       v = valueOf size (take size (drop at s))
 
       go : (x : Bool) → has size s at ≡ x
-          → ReadData.Good afi safi n c ≡ pick x (ReadData.Good (afiOf v) (safiOf v) (numberOf at v) (cursor (at + size))) (ReadData.Cut (cutAt at))
+          → ReadData.Good afi safi n c ≡ pick x (ReadData.Good (afiOf v) (safiOf v) (numberOf at v) (cursor (at + size))) (ReadData.Cut (cutAt (length s) at size))
           → WasData afi safi n c
       go true h q = record { left = leb-true size (length s - at) h; afi-is = cc; safi-is = cc; number-is = cc; next = cc }
       go false h q = let z : _≡_ {A = ℕ} 0 1 = cc in absurd (omega arith)
 
-  pub no-data : (r : Refusal) → ReadData.Cut r ≡ readData size s at → (length s - at < size) × (r ≡ cutAt at)
+  pub no-data : (r : Refusal) → ReadData.Cut r ≡ readData size s at → (length s - at < size) × (r ≡ cutAt (length s) at size)
   no-data r = go (has size s at) refl
     where
       v : Value
       v = valueOf size (take size (drop at s))
 
       go : (x : Bool) → has size s at ≡ x
-          → ReadData.Cut r ≡ pick x (ReadData.Good (afiOf v) (safiOf v) (numberOf at v) (cursor (at + size))) (ReadData.Cut (cutAt at))
-          → (length s - at < size) × (r ≡ cutAt at)
+          → ReadData.Cut r ≡ pick x (ReadData.Good (afiOf v) (safiOf v) (numberOf at v) (cursor (at + size))) (ReadData.Cut (cutAt (length s) at size))
+          → (length s - at < size) × (r ≡ cutAt (length s) at size)
       go true h q = let z : _≡_ {A = ℕ} 0 1 = cc in absurd (omega arith)
       go false h q = (leb-false size (length s - at) h, cc)
 

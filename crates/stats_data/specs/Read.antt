@@ -1,7 +1,7 @@
 -- What the reader of a value answers, for every input.
 use Prim.Native.Nat.{ℕ, _+_}
 use mathlib.Core.List.{List}
-use lib.ListN.{take, drop}
+use lib.ListN.{length, take, drop}
 use lib.Dec.{eqb}
 use Rattle.wire.specs.Bytes.{pick, has, numAt}
 use Rattle.wire.specs.Refusal.{cutAt}
@@ -18,9 +18,10 @@ valueOf size b =
     (pick (eqb size 11) (afi-safi-gauge (numAt 2 b 0) (numAt 1 b 2) (numAt 8 b 3))
     (raw b)))
 
--- a value of size bytes at a place, as the code answers it: its numbers and the cursor past it, or Cut at that place
+-- a value of size bytes at a place, as the code answers it: its numbers and the cursor past it, or Cut at that place,
+-- with what is missing of the whole value
 abbrev pub wholeData : ℕ → List ℕ → ℕ → Value → ReadData
-wholeData size s at v = pick (has size s at) (ReadData.Good (afiOf v) (safiOf v) (numberOf at v) (cursor (at + size))) (ReadData.Cut (cutAt at))
+wholeData size s at v = pick (has size s at) (ReadData.Good (afiOf v) (safiOf v) (numberOf at v) (cursor (at + size))) (ReadData.Cut (cutAt (length s) at size))
 
 abbrev pub readData : ℕ → List ℕ → ℕ → ReadData
 readData size s at = wholeData size s at (valueOf size (take size (drop at s)))

@@ -1,7 +1,7 @@
 -- A Cut is at the first part that is not whole. Assumes nothing.
 use mathlib.Core.Path.{_≡_, refl, sym, ap, _∙_, subst}
 use mathlib.Core.Bool.{Bool, true, false}
-use mathlib.Core.List.{List}
+use mathlib.Core.List.{List, [], _∷_}
 use mathlib.Core.Logic.{_⊎_, inl, inr}
 use Prim.Native.Nat.{ℕ, _-_, _<_}
 use native.Mathlib.Omega.{arith}
@@ -11,9 +11,10 @@ use lib.ListN.{length}
 use Rattle.wire.specs.Number as Number
 use Rattle.wire.specs.Bytes.{pick, has, numAt, Bytes}
 use Rattle.wire.specs.Refusal.{cutAt}
-use Rattle.wire.specs.Lacking.{CutAfter}
+use Rattle.wire.specs.Lacking.{FirstLacking, CutAfter}
 use Rattle.wire.specs.Walk.{readFrom}
-use Rattle.wire.proofs.Cuts.{CutsIn, cuts-in, pick-by, type-lacks, length-lacks, value-lacks, walk-cut, picked-other}
+use Rattle.wire.specs.declared.Refusal.{Refusal}
+use Rattle.wire.proofs.Cuts.{CutsIn, cuts-in, pick-by, type-lacks, length-lacks, value-lacks, one-lacks, walk-cut, picked-other}
 use Rattle.stats_report.specs.Grammar.{putStat, sizeOf, GoodStat}
 use Rattle.stats_report.specs.Shown.{refusedAnswer}
 use Rattle.stats_report.specs.Read.{step, widthsIn, kit, answer, readStats}
@@ -32,23 +33,23 @@ cuts s =
     (λ h. tt)))
 
 -- the count is cut, or a record
-abbrev CutIn : List ℕ → ℕ → Type 0
-CutIn s place = ((length s < 4) × (place ≡ 0)) ⊎ CutAfter putStat GoodStat sizeOf widthsIn 4 s place
+abbrev CutIn : List ℕ → Refusal → Type 0
+CutIn s r = FirstLacking (4 ∷ []) 0 (length s) r ⊎ CutAfter putStat GoodStat sizeOf widthsIn 4 s r
 
 pub refuses-cut : (s : List ℕ) → Bytes s → readStats s .refusal .number ≡ Number.Cut
-    → ((length s < 4) × (readStats s .refusal .place ≡ 0)) ⊎ CutAfter putStat GoodStat sizeOf widthsIn 4 s (readStats s .refusal .place)
+    → FirstLacking (4 ∷ []) 0 (length s) (readStats s .refusal) ⊎ CutAfter putStat GoodStat sizeOf widthsIn 4 s (readStats s .refusal)
 refuses-cut s p e =
     let walked = picked-other (λ (a : StatsAnswer). a .refusal .number) (ltb Number.limit (length s)) Number.Cut (λ q. omega arith) e in
-    subst (λ (a : StatsAnswer). CutIn s (a .refusal .place)) (sym walked)
+    subst (λ (a : StatsAnswer). CutIn s (a .refusal)) (sym walked)
     (go (has 4 s 0) refl (ap (λ (a : StatsAnswer). a .refusal .number) (sym walked) ∙ e))
   where
     total : ℕ
     total = numAt 4 s 0
 
-    go : (b : Bool) → has 4 s 0 ≡ b → pick b (answer total (readFrom kit total 4 s)) (refusedAnswer (cutAt 0)) .refusal .number ≡ Number.Cut
-        → CutIn s (pick b (answer total (readFrom kit total 4 s)) (refusedAnswer (cutAt 0)) .refusal .place)
+    go : (b : Bool) → has 4 s 0 ≡ b → pick b (answer total (readFrom kit total 4 s)) (refusedAnswer (cutAt (length s) 0 4)) .refusal .number ≡ Number.Cut
+        → CutIn s (pick b (answer total (readFrom kit total 4 s)) (refusedAnswer (cutAt (length s) 0 4)) .refusal)
     go true h c =
         let long = leb-true 4 (length s - 0) h in
         inr (walk-cut kit laws widthsIn (λ z. cuts-in (widthsIn z) (length z) (step z) (cuts z)) (λ (a : StatsAnswer). a .refusal) (answer total)
         (λ n at table z. refl) (λ r. refl) total 4 s p (omega arith) c)
-    go false h c = let short = leb-false 4 (length s - 0) h in inl (omega arith, refl)
+    go false h c = inl (one-lacks 0 4 (length s) (omega arith) (leb-false 4 (length s - 0) h))

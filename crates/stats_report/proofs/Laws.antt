@@ -35,7 +35,7 @@ faults s r e = is-fault s r (see s) e
 pub never : Never kit
 never s e = no-stop s (see s) e
 
-takes : Takes kit
+pub takes : Takes kit
 takes s t e =
     let f = found s t (see s) e in
     subst (λ (u : Stat). (0 < sizeOf u) × (sizeOf u ≤ length s)) (f .is) (omega (arith, f .long, f .there))
@@ -111,18 +111,18 @@ module _ (s : List ℕ) where
   no-records r e = go (ltb Number.limit (length s)) (has 4 s 0) e
     where
       go : (a b : Bool)
-          → pick a (Refused (refusal Number.TooLong 0)) (pick b (Said (numAt 4 s 0) (cursor 4)) (Refused (cutAt 0))) ≡ Refused r
-          → pick a (refusedAnswer (refusal Number.TooLong 0)) (pick b (answer (numAt 4 s 0) (readFrom kit (numAt 4 s 0) 4 s)) (refusedAnswer (cutAt 0))) ≡ refusedAnswer r
+          → pick a (Refused (refusal Number.TooLong 0)) (pick b (Said (numAt 4 s 0) (cursor 4)) (Refused (cutAt (length s) 0 4))) ≡ Refused r
+          → pick a (refusedAnswer (refusal Number.TooLong 0)) (pick b (answer (numAt 4 s 0) (readFrom kit (numAt 4 s 0) 4 s)) (refusedAnswer (cutAt (length s) 0 4))) ≡ refusedAnswer r
       go true b q = let z : refusal Number.TooLong 0 ≡ r = cc in ap refusedAnswer z
       go false true q = let z : _≡_ {A = ℕ} 0 1 = cc in absurd (omega arith)
-      go false false q = let z : cutAt 0 ≡ r = cc in ap refusedAnswer z
+      go false false q = let z : cutAt (length s) 0 4 ≡ r = cc in ap refusedAnswer z
 
   pub records : (total : ℕ) (c : Cursor) → countOf s ≡ Said total c → readStats s ≡ answer total (readFrom kit total (c .at) s)
   records total c e = go (ltb Number.limit (length s)) (has 4 s 0) e
     where
       go : (a b : Bool)
-          → pick a (Refused (refusal Number.TooLong 0)) (pick b (Said (numAt 4 s 0) (cursor 4)) (Refused (cutAt 0))) ≡ Said total c
-          → pick a (refusedAnswer (refusal Number.TooLong 0)) (pick b (answer (numAt 4 s 0) (readFrom kit (numAt 4 s 0) 4 s)) (refusedAnswer (cutAt 0)))
+          → pick a (Refused (refusal Number.TooLong 0)) (pick b (Said (numAt 4 s 0) (cursor 4)) (Refused (cutAt (length s) 0 4))) ≡ Said total c
+          → pick a (refusedAnswer (refusal Number.TooLong 0)) (pick b (answer (numAt 4 s 0) (readFrom kit (numAt 4 s 0) 4 s)) (refusedAnswer (cutAt (length s) 0 4)))
           ≡ answer total (readFrom kit total (c .at) s)
       go true b q = let z : _≡_ {A = ℕ} 0 1 = cc in absurd (omega arith)
       go false true q =

@@ -1,7 +1,7 @@
 -- What a user of the Statistics body relies on. Assumes nothing.
 use mathlib.Core.Path.{_≡_, refl, sym, ap, _∙_}
 use mathlib.Core.Bool.{Bool, true, false}
-use mathlib.Core.List.{List}
+use mathlib.Core.List.{List, [], _∷_}
 use mathlib.Core.Logic.{_⊎_}
 use Prim.Native.Nat.{ℕ, _-_, _≤_, _<_}
 use native.Mathlib.Omega.{arith}
@@ -16,9 +16,10 @@ use Rattle.wire.proofs.Bytes.{num-lt, num-back}
 use Rattle.wire.proofs.Determined.{determined}
 use Rattle.wire.proofs.Walk.{read-fault, counted-sound, counted-complete, counted-unique, each-at, counted-too-many}
 use Rattle.wire.specs.Refuses.{Refuses}
+use Rattle.wire.specs.Waits.{Waits, MissingTells}
 use Rattle.wire.specs.Exactly.{Shows, Sound, Complete, Told, Unique}
 use Rattle.wire.specs.Refusal.{refusal}
-use Rattle.wire.specs.Lacking.{CutAfter}
+use Rattle.wire.specs.Lacking.{FirstLacking, CutAfter}
 use Rattle.stats_type.specs.Shown.{typeOf}
 use Rattle.stats_type.specs.declared.StatType.{StatType}
 use Rattle.stats_data.specs.declared.StatsData.{StatsData}
@@ -31,6 +32,7 @@ use Rattle.stats_report.proofs.Laws.{faults, never, laws, behind, count
 use Rattle.stats_report.proofs.Shows.{shows-of, count-of, ViewAt, view-at}
 use Rattle.stats_report.proofs.Told as ToldProofs
 use Rattle.stats_report.proofs.Refusals as Refusals
+use Rattle.stats_report.proofs.Waits as Waiting
 use Rattle.stats_report.proofs.Cuts as Cuts
 use Rattle.cursor.specs.Read.{cursor}
 
@@ -77,6 +79,14 @@ told-back = ToldProofs.told-back
 pub refuses : Refuses reader
 refuses = Refusals.refuses
 
+-- Who waits for as many bytes as a Cut says are missing waits neither too long nor in vain.
+pub waits : Waits reader
+waits = Waiting.waits
+
+-- Bytes are missing exactly where the refusal is a Cut.
+pub missing-tells : MissingTells reader
+missing-tells = Waiting.missing-tells
+
 -- A good reading of more records than the table holds is refused with TooMany, at the first that has no room.
 pub too-many : (r : Reading) → Good r → length (join r) ≤ Number.limit → places < length (r .stats)
     → readStats (join r) ≡ refusedAnswer (refusal Number.TooMany (endFrom sizeOf 4 (take places (r .stats))))
@@ -100,7 +110,7 @@ views r g = each-at kit laws (ViewAt (join r)) (join r) (view-at (join r)) (r .s
 
 -- A Cut is at the first part that is not whole: the count, or a part of a record behind records that are.
 pub refuses-cut : (s : List ℕ) → Bytes s → readStats s .refusal .number ≡ Number.Cut
-    → ((length s < 4) × (readStats s .refusal .place ≡ 0)) ⊎ CutAfter putStat GoodStat sizeOf widthsIn 4 s (readStats s .refusal .place)
+    → FirstLacking (4 ∷ []) 0 (length s) (readStats s .refusal) ⊎ CutAfter putStat GoodStat sizeOf widthsIn 4 s (readStats s .refusal)
 refuses-cut = Cuts.refuses-cut
 
 -- ---- any two answers that the contracts allow are equal

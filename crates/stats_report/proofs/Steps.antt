@@ -15,6 +15,7 @@ use Rattle.wire.specs.TlvAt.{tlvOf}
 use Rattle.wire.specs.Walk as Walk
 use Rattle.wire.specs.Walk.{stop, bad, item, from}
 use Rattle.wire.specs.declared.Refusal.{Refusal}
+use Rattle.wire.proofs.Needs.{cut-from}
 use Rattle.cursor.specs.declared.Cursor.{Cursor}
 use Rattle.stats_report.specs.Grammar.{Stat, sizeOf}
 use Rattle.stats_report.specs.Shown.{entry}
@@ -26,9 +27,9 @@ use Rattle.stats_report.specs.Read.{asStat, step, asStep, headCut, stepA
 use Rattle.stats_report.specs.declared.Step.the-variants.{Bad, Whole}
 
 pub data Seen (s : List ℕ) : Walk.Step Stat → Type 0 where
-  no-type : length s < 2 → Seen s (bad (cutAt 0))
-  no-length : 2 ≤ length s → length s < 4 → Seen s (bad (cutAt 2))
-  no-value : 4 ≤ length s → length s - 4 < numAt 2 s 2 → Seen s (bad (cutAt 4))
+  no-type : length s < 2 → Seen s (bad (cutAt (length s) 0 2))
+  no-length : 2 ≤ length s → length s < 4 → Seen s (bad (cutAt (length s) 2 2))
+  no-value : 4 ≤ length s → length s - 4 < numAt 2 s 2 → Seen s (bad (cutAt (length s) 4 (numAt 2 s 2)))
   whole : 4 ≤ length s → numAt 2 s 2 ≤ length s - 4 → Seen s (item (asStat (tlvOf s)))
 
 pub see : (s : List ℕ) → Seen s (step s)
@@ -36,7 +37,7 @@ unfolding step
 see s = go (ltb (length s) 2) refl (ltb (length s) 4) refl (ltb (length s - 4) (numAt 2 s 2)) refl
   where
     go : (a : Bool) → ltb (length s) 2 ≡ a → (b : Bool) → ltb (length s) 4 ≡ b → (c : Bool) → ltb (length s - 4) (numAt 2 s 2) ≡ c
-        → Seen s (pick a (bad (cutAt 0)) (pick b (bad (cutAt 2)) (pick c (bad (cutAt 4)) (item (asStat (tlvOf s))))))
+        → Seen s (pick a (bad (cutAt (length s) 0 2)) (pick b (bad (cutAt (length s) 2 2)) (pick c (bad (cutAt (length s) 4 (numAt 2 s 2))) (item (asStat (tlvOf s))))))
     go true h b k c l = no-type (ltb-true (length s) 2 h)
     go false h true k c l = no-length (ltb-false (length s) 2 h) (ltb-true (length s) 4 k)
     go false h false k true l = no-value (ltb-false (length s) 4 k) (ltb-true (length s - 4) (numAt 2 s 2) l)
@@ -68,29 +69,31 @@ no-stop s (no-value h k) q = let z : _≡_ {A = ℕ} 0 1 = cc in omega arith
 no-stop s (whole h k) q = let z : _≡_ {A = ℕ} 0 1 = cc in omega arith
 
 pub is-fault : (s : List ℕ) (r : Refusal) {x : Walk.Step Stat} → Seen s x → x ≡ bad r → 0 < r .number
-is-fault s r (no-type h) q = let z : cutAt 0 ≡ r = cc in omega (arith, ap (λ (x : Refusal). x .number) z)
-is-fault s r (no-length h k) q = let z : cutAt 2 ≡ r = cc in omega (arith, ap (λ (x : Refusal). x .number) z)
-is-fault s r (no-value h k) q = let z : cutAt 4 ≡ r = cc in omega (arith, ap (λ (x : Refusal). x .number) z)
+is-fault s r (no-type h) q = let z : cutAt (length s) 0 2 ≡ r = cc in omega (arith, ap (λ (x : Refusal). x .number) z)
+is-fault s r (no-length h k) q = let z : cutAt (length s) 2 2 ≡ r = cc in omega (arith, ap (λ (x : Refusal). x .number) z)
+is-fault s r (no-value h k) q = let z : cutAt (length s) 4 (numAt 2 s 2) ≡ r = cc in omega (arith, ap (λ (x : Refusal). x .number) z)
 is-fault s r (whole h k) q = let z : _≡_ {A = ℕ} 0 1 = cc in absurd (omega arith)
 
 -- ---- each answer of `step_at`
 module _ (s : List ℕ) (at : ℕ) where
   pub no-head-at : length s - at < 4 → stepAt s at ≡ Bad (headCut s at)
-  no-head-at k = go (leb (at + 2) (length s)) refl
+  no-head-at k = go (leb 2 (length s - at)) refl
     where
-      go : (x : Bool) → leb (at + 2) (length s) ≡ x → stepAt s at ≡ Bad (headCut s at)
+      go : (x : Bool) → leb 2 (length s - at) ≡ x → stepAt s at ≡ Bad (headCut s at)
       go true h =
-          let two = leb-true (at + 2) (length s) h in
-          rw (of (drop at s) (no-length (simp length-drop (omega arith)) (simp length-drop k)), h, lt-leb (at + 2 + 2) (length s) (omega arith))
+          let two = leb-true 2 (length s - at) h in
+          rw (of (drop at s) (no-length (simp length-drop (omega arith)) (simp length-drop k)), h, lt-leb 2 (length s - (at + 2)) (omega arith))
+          (ap Bad (cut-from s at 2 (at + 2) 2 refl))
       go false h =
-          let few = leb-false (at + 2) (length s) h in
-          rw (of (drop at s) (no-type (simp length-drop (omega arith))), add-zero at, h)
+          let few = leb-false 2 (length s - at) h in
+          rw (of (drop at s) (no-type (simp length-drop (omega arith))), h) (ap Bad (cut-from s at 0 at 2 (sym (add-zero at))))
 
   module _ (long : 4 ≤ length s - at) (size : ℕ) (size-is : numAt 2 (drop at s) 2 ≡ size) (place : ℕ) (place-is : place ≡ at + 4) where
     pub no-value-at : (r : Refusal) → ReadData.Cut r ≡ readData size s place → stepAt s at ≡ Bad r
     no-value-at r e =
         let n = no-data size s place r e in
-        rw (of (drop at s) (no-value (simp length-drop long) (rw (length-drop, size-is) (omega (arith, n .0)))), n .1, place-is)
+        rw (of (drop at s) (no-value (simp length-drop long) (rw (length-drop, size-is) (omega (arith, n .0)))), size-is)
+        (ap Bad (cut-from s at 4 place size place-is ∙ sym (n .1)))
 
     pub whole-at : (kind : ℕ) → numAt 2 (drop at s) 0 ≡ kind → (afi safi n : ℕ) (c : Cursor) → ReadData.Good afi safi n c ≡ readData size s place
         → stepAt s at ≡ Whole kind size afi safi n c

@@ -32,9 +32,9 @@ asStat t = record { kind = t .kind; size = t .size; value = valueOf (t .size) (t
 -- type, length and value, each Cut at its own place
 unfoldable pub step : List ℕ → Walk.Step Stat
 step s =
-    pick (ltb (length s) 2) (bad (cutAt 0))
-    (pick (ltb (length s) 4) (bad (cutAt 2))
-    (pick (ltb (length s - 4) (numAt 2 s 2)) (bad (cutAt 4))
+    pick (ltb (length s) 2) (bad (cutAt (length s) 0 2))
+    (pick (ltb (length s) 4) (bad (cutAt (length s) 2 2))
+    (pick (ltb (length s - 4) (numAt 2 s 2)) (bad (cutAt (length s) 4 (numAt 2 s 2)))
     (item (asStat (tlvOf s)))))
 
 -- the widths of the parts of the record at the front
@@ -67,7 +67,7 @@ answer total (refused r) = refusedAnswer r
 abbrev pub countOf : List ℕ → Count
 countOf s =
     pick (ltb Number.limit (length s)) (Refused (refusal Number.TooLong 0))
-    (pick (has 4 s 0) (Said (numAt 4 s 0) (cursor 4)) (Refused (cutAt 0)))
+    (pick (has 4 s 0) (Said (numAt 4 s 0) (cursor 4)) (Refused (cutAt (length s) 0 4)))
 
 abbrev pub refusalIn : Count → Refusal
 refusalIn (Said n c) = noRefusal
@@ -77,7 +77,7 @@ refusalIn (Refused r) = r
 abbrev pub readStats : List ℕ → StatsAnswer
 readStats s =
     pick (ltb Number.limit (length s)) (refusedAnswer (refusal Number.TooLong 0))
-    (pick (has 4 s 0) (answer (numAt 4 s 0) (readFrom kit (numAt 4 s 0) 4 s)) (refusedAnswer (cutAt 0)))
+    (pick (has 4 s 0) (answer (numAt 4 s 0) (readFrom kit (numAt 4 s 0) 4 s)) (refusedAnswer (cutAt (length s) 0 4)))
 
 -- the numbers that it refuses with
 abbrev pub numbers : List ℕ

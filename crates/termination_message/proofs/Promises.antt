@@ -11,6 +11,7 @@ use Rattle.wire.proofs.Exactly.{not-too-long}
 use Rattle.wire.proofs.Walk.{read-complete, each-at, read-accepted, read-too-many, tail-behind}
 use Rattle.wire.proofs.Walk as Walk
 use Rattle.wire.specs.Refuses.{Refuses}
+use Rattle.wire.specs.Waits.{Waits, MissingTells}
 use Rattle.wire.specs.Exactly.{Sound, Complete, Told, Unique}
 use Rattle.wire.specs.Number as Number
 use Rattle.wire.specs.Refusal.{refusal}
@@ -32,6 +33,7 @@ use Rattle.termination_message.proofs.Laws.{faults, laws, tails}
 use Rattle.termination_message.proofs.Shows.{shows-of, ValueAt, code-told, value-at}
 use Rattle.termination_message.proofs.Told as ToldProofs
 use Rattle.termination_message.proofs.Refusals as Refusals
+use Rattle.termination_message.proofs.Waits as Waiting
 use Rattle.termination_message.proofs.Cuts.{cuts}
 
 -- What the reader accepts has a good reading that fits, and it shows that reading.
@@ -53,6 +55,14 @@ told-back = ToldProofs.told-back
 -- A refusal shows nothing but itself, and has one of the reader's numbers; each of these is given for some input.
 pub refuses : Refuses reader
 refuses = Refusals.refuses
+
+-- Who waits for as many bytes as a Cut says are missing waits neither too long nor in vain.
+pub waits : Waits reader
+waits = Waiting.waits
+
+-- Bytes are missing exactly where the refusal is a Cut.
+pub missing-tells : MissingTells reader
+missing-tells = Waiting.missing-tells
 
 -- A good reading of more TLVs than the table holds is refused with TooMany, at the first that has no room.
 pub too-many : (r : Reading) → Good r → length (join r) ≤ Number.limit → places < length (r .tlvs)
@@ -88,7 +98,7 @@ code-reason RedundantConnection = refl
 code-reason PermanentlyAdministrativelyClosed = refl
 
 -- A Cut is at the first part that is not whole, behind TLVs that are.
-pub refuses-cut : (s : List ℕ) → Bytes s → readTermination s .refusal .number ≡ Number.Cut → CutAfter put ReadTlv sizeOf widthsIn 0 s (readTermination s .refusal .place)
+pub refuses-cut : (s : List ℕ) → Bytes s → readTermination s .refusal .number ≡ Number.Cut → CutAfter put ReadTlv sizeOf widthsIn 0 s (readTermination s .refusal)
 refuses-cut =
     body-cut kit laws widthsIn (λ z. cuts-in (widthsIn z) (length z) (step z) (cuts z)) reader _ answer (λ s. refl) refl
     (λ n at table z. refl) (λ r. refl)

@@ -18,6 +18,7 @@ use Rattle.wire.specs.Walk as Walk
 use Rattle.wire.specs.Walk.{stop, bad, item, from}
 use Rattle.wire.specs.declared.Refusal.{Refusal}
 use Rattle.cursor.specs.declared.Cursor.{Cursor}
+use Rattle.wire.proofs.Needs.{cut-from}
 use Rattle.wire.proofs.Tlv.{NoTlv}
 use Rattle.termination_message.specs.Grammar.{Tlv, string, reason, sizeOf}
 use Rattle.termination_message.specs.Shown.{entry}
@@ -34,7 +35,7 @@ pub data Seen (s : List ℕ) : Walk.Step Tlv → Type 0 where
   none : NoTlv s → (4 < length s → numAt 2 s 0 ≤ 1) → Seen s stop
   strange : 4 < length s → 1 < numAt 2 s 0 → Seen s (bad (refusal Number.UnknownKind 0))
   text : Begun s 0 → Seen s (item (stringIn s))
-  lacking : Begun s 1 → length s - 4 < 2 → Seen s (bad (cutAt 4))
+  lacking : Begun s 1 → length s - 4 < 2 → Seen s (bad (cutAt (length s) 4 2))
   unknown : Begun s 1 → 2 ≤ length s - 4 → 4 < numAt 2 s 4 → Seen s (bad (refusal Number.UnknownKind 4))
   known : Begun s 1 → 2 ≤ length s - 4 → numAt 2 s 4 ≤ 4 → Seen s (item (reasonIn s))
 
@@ -53,7 +54,7 @@ see s =
     go : (a : Bool) → leb (length s) 4 ≡ a → (b : Bool) → ltb 1 (numAt 2 s 0) ≡ b → (c : Bool) → ltb (length s - 4) (numAt 2 s 2) ≡ c
         → (d : Bool) → eqb (numAt 2 s 0) 0 ≡ d → (e : Bool) → ltb (length s - 4) 2 ≡ e → (f : Bool) → ltb 4 (numAt 2 s 4) ≡ f
         → Seen s (pick a stop (pick b (bad (refusal Number.UnknownKind 0)) (pick c stop (pick d (item (stringIn s))
-        (pick e (bad (cutAt 4)) (pick f (bad (refusal Number.UnknownKind 4)) (item (reasonIn s))))))))
+        (pick e (bad (cutAt (length s) 4 2)) (pick f (bad (refusal Number.UnknownKind 4)) (item (reasonIn s))))))))
     go true ha b hb c hc d hd e he f hf = let h = leb-true (length s) 4 ha in none (inl h) (λ k. absurd (omega arith))
     go false ha true hb c hc d hd e he f hf = strange (leb-false (length s) 4 ha) (ltb-true 1 (numAt 2 s 0) hb)
     go false ha false hb true hc d hd e he f hf =
@@ -69,7 +70,7 @@ see s =
 -- the tests that a TLV of a known type passes
 begun-step : (s : List ℕ) (kind : ℕ) → kind ≤ 1 → Begun s kind
     → step s
-    ≡ pick (eqb kind 0) (item (stringIn s)) (pick (ltb (length s - 4) 2) (bad (cutAt 4)) (pick (ltb 4 (numAt 2 s 4)) (bad (refusal Number.UnknownKind 4)) (item (reasonIn s))))
+    ≡ pick (eqb kind 0) (item (stringIn s)) (pick (ltb (length s - 4) 2) (bad (cutAt (length s) 4 2)) (pick (ltb 4 (numAt 2 s 4)) (bad (refusal Number.UnknownKind 4)) (item (reasonIn s))))
 unfolding step
 begun-step s kind h b =
     rw (lt-leb (length s) 4 (b .long), b .kind-is, le-ltb 1 kind h, le-ltb (length s - 4) (numAt 2 s 2) (b .there))
@@ -158,8 +159,9 @@ module _ (s : List ℕ) (at : ℕ) where
           ∙ (λ i. Whole (sym k i) (size-is i) (sym place-is i) (cursor (there i)))
 
       module _ (one : kind ≡ 1) (fits : size ≤ length s - place) where
-        pub lacking-at : length s - place < 2 → stepAt s at ≡ Bad (cutAt place)
-        lacking-at l = rw (of (drop at s) (lacking (begun-at 1 one fits) (rw length-drop (omega arith))), place-is)
+        pub lacking-at : length s - place < 2 → stepAt s at ≡ Bad (cutAt (length s) place 2)
+        lacking-at l =
+            ap (asStep at (drop at s)) (of (drop at s) (lacking (begun-at 1 one fits) (rw length-drop (omega arith)))) ∙ ap Bad (cut-from s at 4 place 2 place-is)
 
         module _ (two : 2 ≤ length s - place) (code : ℕ) (code-is : numAt 2 (drop at s) 4 ≡ code) where
           pub unknown-at : 4 < code → stepAt s at ≡ Bad (refusal Number.UnknownKind place)

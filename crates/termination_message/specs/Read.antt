@@ -33,7 +33,7 @@ step s =
     (pick (ltb 1 (numAt 2 s 0)) (bad (refusal Number.UnknownKind 0))
     (pick (ltb (length s - 4) (numAt 2 s 2)) stop
     (pick (eqb (numAt 2 s 0) 0) (item (stringIn s))
-    (pick (ltb (length s - 4) 2) (bad (cutAt 4))
+    (pick (ltb (length s - 4) 2) (bad (cutAt (length s) 4 2))
     (pick (ltb 4 (numAt 2 s 4)) (bad (refusal Number.UnknownKind 4)) (item (reasonIn s)))))))
 
 -- the widths of the parts of the TLV at the front, as far as a Cut goes by them: a Reason's value needs two bytes

@@ -1,7 +1,7 @@
 -- Where a walk is cut: one law for every kit. Assumes nothing.
 use mathlib.Core.Path.{_≡_, refl, sym, ap, _∙_, subst}
 use mathlib.Core.Bool.{Bool, true, false}
-use mathlib.Core.List.{List, [], _∷_}
+use mathlib.Core.List.{List, [], _∷_, _++_}
 use mathlib.Core.Logic.{_⊎_, inl, inr}
 use Prim.Native.Nat.{ℕ, zero, suc, _+_, _-_, _≤_, _<_}
 use native.Mathlib.Omega.{arith}
@@ -9,10 +9,10 @@ use lib.Dec.{leb, ltb}
 use lib.ListN.{length, drop, set, replicate, length-drop}
 use Rattle.wire.specs.Number as Number
 use Rattle.wire.specs.Bytes.{pick, Bytes}
-use Rattle.wire.specs.Refusal.{refusal}
+use Rattle.wire.specs.Refusal.{refusal, cutAt}
 use Rattle.wire.specs.Parts.{joinAll, EachGood, endFrom}
 use Rattle.wire.specs.TlvAt.{tlvWidths}
-use Rattle.wire.specs.Lacking.{FirstLacking, CutAfter}
+use Rattle.wire.specs.Lacking.{total, FirstLacking, CutAfter}
 use Rattle.wire.specs.Walk.{Step, stop, bad, item, End, tail, fault, Walked, Kit, next, walk, Out, good, refused, from, fill, readFrom}
 use Rattle.wire.specs.Exactly.{Reader, numberOf}
 use Rattle.wire.specs.declared.Refusal.{Refusal}
@@ -20,8 +20,8 @@ use Rattle.wire.proofs.Bytes.{bytes-drop}
 use Rattle.wire.proofs.Walk.{Laws, tail-behind, end-within}
 
 -- the same parts, k bytes further on
-pub lacking-behind : (ws : List ℕ) (n place k m : ℕ) → k + n ≡ m → FirstLacking ws 0 n place → FirstLacking ws k m (k + place)
-lacking-behind ws n place k m e l =
+pub lacking-behind : (ws : List ℕ) (n : ℕ) (r : Refusal) (k m : ℕ) → k + n ≡ m → FirstLacking ws 0 n r → FirstLacking ws k m (from k r)
+lacking-behind ws n r k m e l =
     record {
       before = l .before;
       width = l .width;
@@ -30,6 +30,7 @@ lacking-behind ws n place k m e l =
       place-is = omega (arith, l .place-is);
       starts-inside = omega (arith, l .starts-inside);
       ends-outside = omega (arith, l .ends-outside);
+      missing-is = omega (arith, l .missing-is);
     }
 
 -- of two answers that a test picks from, the second where the first has another number
@@ -86,9 +87,9 @@ module _ (K : Kit) {put : K .Item → List ℕ → List ℕ} {G : K .Item → Li
 
   -- where each Cut at the front of some bytes is at the first part that is not whole, so is a Cut of the walk
   module _ (widths : List ℕ → List ℕ)
-      (cuts : (z : List ℕ) (q : Refusal) → K .step z ≡ bad q → q .number ≡ Number.Cut → FirstLacking (widths z) 0 (length z) (q .place)) where
+      (cuts : (z : List ℕ) (q : Refusal) → K .step z ≡ bad q → q .number ≡ Number.Cut → FirstLacking (widths z) 0 (length z) q) where
     cut-behind : (f at : ℕ) (s : List ℕ) → Bytes s → at ≤ length s → (r : Refusal) → readFrom K f at s ≡ refused r → r .number ≡ Number.Cut
-        → CutAfter put G (K .size) widths at s (r .place)
+        → CutAfter put G (K .size) widths at s r
     cut-behind f at s p inside r e c =
         go (fill-broken K (w .items) 0 at (replicate (K .limit) (K .none)) (w .end) r e)
       where
@@ -96,7 +97,7 @@ module _ (K : Kit) {put : K .Item → List ℕ → List ℕ} {G : K .Item → Li
         w = walk K f (drop at s)
 
         go : (r .number ≡ Number.TooMany) ⊎ ((q : Refusal) × (w .end ≡ fault q) × (from (endFrom (K .size) at (w .items)) q ≡ r))
-            → CutAfter put G (K .size) widths at s (r .place)
+            → CutAfter put G (K .size) widths at s r
         go (inl many) = absurd (omega (arith, many, c))
         go (inr (q, e, is-r)) =
             let b = walk-broken f (drop at s) (bytes-drop at p) q e in
@@ -111,8 +112,8 @@ module _ (K : Kit) {put : K .Item → List ℕ → List ℕ} {G : K .Item → Li
               each-good = b .each;
               joined = b .joined;
               lacking =
-                  subst (λ (x : Refusal). FirstLacking (widths (b .rest)) end (length s) (x .place)) is-r
-                  (lacking-behind (widths (b .rest)) (length (b .rest)) (q .place) end (length s) long (cuts (b .rest) q (b .at-front) number-is));
+                  subst (FirstLacking (widths (b .rest)) end (length s)) is-r
+                  (lacking-behind (widths (b .rest)) (length (b .rest)) q end (length s) long (cuts (b .rest) q (b .at-front) number-is));
             }
 
     -- the same of the answer that is made of what the walk hands back
@@ -120,16 +121,16 @@ module _ (K : Kit) {put : K .Item → List ℕ → List ℕ} {G : K .Item → Li
         → ((n at : ℕ) (table : List (K .Entry)) (z : List ℕ) → refusalOf (answer (good n at table z)) .number ≡ Number.Good)
         → ((r : Refusal) → refusalOf (answer (refused r)) ≡ r)
         → (f at : ℕ) (s : List ℕ) → Bytes s → at ≤ length s → refusalOf (answer (readFrom K f at s)) .number ≡ Number.Cut
-        → CutAfter put G (K .size) widths at s (refusalOf (answer (readFrom K f at s)) .place)
+        → CutAfter put G (K .size) widths at s (refusalOf (answer (readFrom K f at s)))
     walk-cut refusalOf answer when-good when-refused f at s p inside c = go (readFrom K f at s) refl
       where
-        go : (o : Out (K .Entry)) → readFrom K f at s ≡ o → CutAfter put G (K .size) widths at s (refusalOf (answer (readFrom K f at s)) .place)
+        go : (o : Out (K .Entry)) → readFrom K f at s ≡ o → CutAfter put G (K .size) widths at s (refusalOf (answer (readFrom K f at s)))
         go (good n end table z) e =
             let x : Number.Good ≡ Number.Cut = sym (when-good n end table z) ∙ ap (λ (o : Out (K .Entry)). refusalOf (answer o) .number) (sym e) ∙ c in
             absurd (omega arith)
         go (refused r) e =
             let is-r : refusalOf (answer (readFrom K f at s)) ≡ r = ap (λ (o : Out (K .Entry)). refusalOf (answer o)) e ∙ when-refused r in
-            subst (λ (x : Refusal). CutAfter put G (K .size) widths at s (x .place)) (sym is-r)
+            subst (CutAfter put G (K .size) widths at s) (sym is-r)
             (cut-behind f at s p inside r e (ap (λ (x : Refusal). x .number) (sym is-r) ∙ c))
 
     -- and of a reader that judges the length, and then walks over all of the input
@@ -138,22 +139,22 @@ module _ (K : Kit) {put : K .Item → List ℕ → List ℕ} {G : K .Item → Li
         → R .refusalOf too-long .number ≡ Number.TooLong
         → ((n at : ℕ) (table : List (K .Entry)) (z : List ℕ) → R .refusalOf (answer (good n at table z)) .number ≡ Number.Good)
         → ((r : Refusal) → R .refusalOf (answer (refused r)) ≡ r)
-        → (s : List ℕ) → Bytes s → numberOf R s ≡ Number.Cut → CutAfter put G (K .size) widths 0 s (R .refusalOf (R .read s) .place)
+        → (s : List ℕ) → Bytes s → numberOf R s ≡ Number.Cut → CutAfter put G (K .size) widths 0 s (R .refusalOf (R .read s))
     body-cut R too-long answer reads one when-good when-refused s p e =
         let number : R .Answer → ℕ = λ a. R .refusalOf a .number in
         let judged = ap number (sym (reads s)) ∙ e in
         let walked = reads s ∙ picked-other number (ltb Number.limit (length s)) Number.Cut (λ q. omega (arith, q, one)) judged in
-        subst (λ (a : R .Answer). CutAfter put G (K .size) widths 0 s (R .refusalOf a .place)) (sym walked)
+        subst (λ (a : R .Answer). CutAfter put G (K .size) widths 0 s (R .refusalOf a)) (sym walked)
         (walk-cut (R .refusalOf) answer when-good when-refused (length s) 0 s p (omega arith) (ap number (sym walked) ∙ e))
 
 -- ---- a Cut at the front of n bytes is at the first part that is not whole: for a step that is made by tests, one after the other
 abbrev pub CutsIn : {A : Type 0} → List ℕ → ℕ → Step A → Type 0
 CutsIn ws n stop = Unit {0}
-CutsIn ws n (bad q) = q .number ≡ Number.Cut → FirstLacking ws 0 n (q .place)
+CutsIn ws n (bad q) = q .number ≡ Number.Cut → FirstLacking ws 0 n q
 CutsIn ws n (item a) = Unit {0}
 
 pub cuts-in : {A : Type 0} (ws : List ℕ) (n : ℕ) (x : Step A) → CutsIn ws n x → (q : Refusal) → x ≡ bad q → q .number ≡ Number.Cut
-    → FirstLacking ws 0 n (q .place)
+    → FirstLacking ws 0 n q
 cuts-in ws n x h q e = subst (CutsIn ws n) e h
 
 -- what holds of each of two where its test holds, holds of the one that the test picks
@@ -161,16 +162,42 @@ pub pick-by : {A : Type 0} (P : A → Type 0) (b : Bool) {x y : A} → (b ≡ tr
 pick-by P true p q = p refl
 pick-by P false p q = q refl
 
+-- a part that lacks bytes, behind those that are whole
+pub part-lacks : (before : List ℕ) (width : ℕ) (behind : List ℕ) (n : ℕ) → total before ≤ n → n < total before + width
+    → FirstLacking (before ++ width ∷ behind) 0 n (cutAt n (total before) width)
+part-lacks before width behind n inside short =
+    record {
+      before = before;
+      width = width;
+      behind = behind;
+      run-is = refl;
+      place-is = omega arith;
+      starts-inside = inside;
+      ends-outside = short;
+      missing-is = omega arith;
+    }
+
+-- one part alone that lacks bytes
+pub one-lacks : (at width n : ℕ) → at ≤ n → n - at < width → FirstLacking (width ∷ []) at n (cutAt n at width)
+one-lacks at width n inside few =
+    record {
+      before = [];
+      width = width;
+      behind = [];
+      run-is = refl;
+      place-is = omega arith;
+      starts-inside = inside;
+      ends-outside = omega arith;
+      missing-is = omega arith;
+    }
+
 -- the three parts of a TLV
 module _ (need n : ℕ) where
-  pub type-lacks : n < 2 → FirstLacking (tlvWidths need) 0 n 0
-  type-lacks h =
-      record { before = []; width = 2; behind = 2 ∷ need ∷ []; run-is = refl; place-is = refl; starts-inside = omega arith; ends-outside = omega arith }
+  pub type-lacks : n < 2 → FirstLacking (tlvWidths need) 0 n (cutAt n 0 2)
+  type-lacks h = part-lacks [] 2 (2 ∷ need ∷ []) n (omega arith) (omega arith)
 
-  pub length-lacks : 2 ≤ n → n < 4 → FirstLacking (tlvWidths need) 0 n 2
-  length-lacks l h =
-      record { before = 2 ∷ []; width = 2; behind = need ∷ []; run-is = refl; place-is = refl; starts-inside = l; ends-outside = omega arith }
+  pub length-lacks : 2 ≤ n → n < 4 → FirstLacking (tlvWidths need) 0 n (cutAt n 2 2)
+  length-lacks l h = part-lacks (2 ∷ []) 2 (need ∷ []) n (omega arith) (omega arith)
 
-  pub value-lacks : 4 ≤ n → n - 4 < need → FirstLacking (tlvWidths need) 0 n 4
-  value-lacks l h =
-      record { before = 2 ∷ 2 ∷ []; width = need; behind = []; run-is = refl; place-is = refl; starts-inside = l; ends-outside = omega arith }
+  pub value-lacks : 4 ≤ n → n - 4 < need → FirstLacking (tlvWidths need) 0 n (cutAt n 4 need)
+  value-lacks l h = part-lacks (2 ∷ 2 ∷ []) need [] n (omega arith) (omega arith)

@@ -9,6 +9,8 @@ pub mod Rfc
 pub mod Exactly
 pub mod Refuses
 pub mod Cuts
+pub mod Waits
+pub mod WalkWaits
 pub mod Determined
 pub mod Flags
 pub mod Promises

@@ -11,3 +11,4 @@ pub mod Arms
 pub mod Rfc
 pub mod Exactly
 pub mod Refuses
+pub mod Waits

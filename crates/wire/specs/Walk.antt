@@ -52,7 +52,7 @@ pub data Out (T : Type 0) : Type 0 where
 
 -- a fault that was found from a place on
 abbrev pub from : ℕ → Refusal → Refusal
-from at r = refusal (r .number) (at + r .place)
+from at r = record { number = r .number; place = at + r .place; missing = r .missing }
 
 abbrev pub ending : {T : Type 0} → ℕ → ℕ → List T → End → Out T
 ending n at table (tail z) = good n at table z

@@ -55,10 +55,12 @@ pub const BGP_HEADER: usize = 19;
 // How many TLVs the table of a body holds.
 pub const TLV_PLACES: usize = 32;
 
-// A number of the list above and the place of the field at fault; both are 0 in a good answer.
+// A number of the list above, the place of the field at fault, and how many bytes it lacks, which is 0 but in a Cut; all are 0 in a
+// good answer.
 pub struct Refusal {
     pub number: u8,
     pub place: usize,
+    pub missing: usize,
 }
 
 // Whether the bytes that a field needs are there, or the Cut that says they are not.
@@ -73,13 +75,14 @@ pub struct View {
     pub length: usize,
 }
 
-// The refusal by a number of the list above, at a place; where bytes are counted, a Cut is made by need_at.
+// The refusal by a number of the list above, at a place, with nothing missing; a Cut is made by need_at, where the bytes are counted.
 pub fn refusal_at(number: u8, place: usize) -> Refusal
     ensures { λ r. ⌜ r ≡ refusal number place ⌝ }
 {
     Refusal {
         number: number,
         place: place,
+        missing: 0,
     }
 }
 
@@ -105,8 +108,13 @@ pub fn no_view() -> View
 pub fn need_at(there: usize, at: usize, count: usize) -> Need
     ensures { λ r. ⌜ r ≡ needAt there at count ⌝ }
 {
-    if rest(there, at) < count {
-        return Need::Cut(refusal_at(CUT, at));
+    let left = rest(there, at);
+    if left < count {
+        return Need::Cut(Refusal {
+            number: CUT,
+            place: at,
+            missing: count - left,
+        });
     }
     Need::Met
 }

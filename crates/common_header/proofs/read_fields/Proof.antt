@@ -2,6 +2,7 @@ use borrow.Author.Needs.{needs}
 use denote.Ref.{now}
 use mathlib.Core.Path.{_≡_, sym, ap, ap₂, _∙_, subst}
 use Prim.Native.Nat.{ℕ}
+use lib.ListN.{length}
 use Rattle.common_header.proofs.Fields.{no-version, other-version, no-length, no-kind, whole}
 use Rattle.wire.specs.Bytes.{numAt}
 use Rattle.wire.specs.Refusal.{cutAt}
@@ -65,7 +66,7 @@ returns-3 c =
     let s = now (c .before .before .before .before .before .before .before .before .before .before .args .s) in
     let v = was-version (c .before .before .before .before .before) in
     let h = was-cut 4 s (c .before .before .before .before .before .before .version .given .0 .1 .0 .at) (ap fromU32 (c .before .refusal2 .given .1)) (tells32 _ (c .before .before .before .read-u32 .ensures)) in
-    ap CommonFields.Refused (h .cut-is ∙ ap cutAt (v .next))
+    ap CommonFields.Refused (h .cut-is ∙ ap (λ (p : ℕ). cutAt (length s) p 4) (v .next))
     ∙ sym (no-length s (v .left) (sym (v .number) ∙ c .before .before .before .before .if1 .left) (rw (← v .next) (h .few)))
 
 returns-4 : tie.Need-returns-4
@@ -74,7 +75,7 @@ returns-4 c =
     let v = was-version (c .before .before .before .before .before .before .before .before .before) in
     let n = was-length (c .before .before .before .before) in
     let h = was-cut 1 s (c .before .before .before .before .before .msg-len .given .0 .1 .0 .at) (ap fromU8 (c .before .refusal3 .given .1)) (tells8 _ (c .before .before .before .read-u82 .ensures)) in
-    ap CommonFields.Refused (h .cut-is ∙ ap cutAt (n .next))
+    ap CommonFields.Refused (h .cut-is ∙ ap (λ (p : ℕ). cutAt (length s) p 1) (n .next))
     ∙ sym (no-kind s (v .left) (sym (v .number) ∙ c .before .before .before .before .before .before .before .before .if1 .left) (n .left) (rw (← n .next) (h .few)))
 
 returns-5 : tie.Need-returns-5

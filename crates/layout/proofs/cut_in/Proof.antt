@@ -1,18 +1,17 @@
 use borrow.Author.Needs.{needs}
 use native.Mathlib.Omega.{arith}
-use mathlib.Core.Path.{_≡_, sym, ap, _∙_}
+use mathlib.Core.Path.{_≡_, sym, _∙_}
 use Prim.Native.Nat.{_-_, _≤_}
 use lib.ListN.{length, drop, getD}
-use Rattle.layout.specs.Layout.{firstCut}
+use Rattle.layout.specs.Layout.{cutIn}
 use Rattle.layout.proofs.Cuts.{cut, whole, ended}
-use Rattle.wire.specs.Refusal.{cutAt}
 use Rattle.wire.proofs.Needs.{was-met, was-cut}
 use Rattle.layout.proofs.cut_in.Statement.{statement}
 use Rattle.layout.proofs.cut_in.Tie as tie
 
 abbrev Inv-loop : tie.InvT-loop
 Inv-loop widths at n place₀ i₀ place i =
-    (i ≤ length widths) × (at ≤ place) × (place - at ≤ n - at) × (firstCut widths at n ≡ firstCut (drop i widths) place n)
+    (i ≤ length widths) × (at ≤ place) × (place - at ≤ n - at) × (cutIn widths at n ≡ cutIn (drop i widths) place n)
 
 abbrev μ-loop : tie.MeasureT-loop
 μ-loop widths at n place₀ i₀ place i = length widths - i
@@ -37,7 +36,7 @@ returns c =
     let a = c .before .before .before .before .before .before .before .before .args in
     let k = c .before .before .before .before .before .before .loop in
     let lacked = was-cut (a .there) (k .place) (getD (a .widths .now) (k .i) 0) (c .before .refusal .given .1) (c .before .before .before .need-at .ensures) in
-    lacked .cut-is ∙ ap cutAt (sym (k .inv .3 ∙ cut (a .widths .now) (k .place) (k .i) (a .there) (omega arith) (lacked .few)))
+    lacked .cut-is ∙ sym (k .inv .3 ∙ cut (a .widths .now) (k .place) (k .i) (a .there) (omega arith) (lacked .few))
 
 enum-told : tie.Need-enum-told Inv-loop μ-loop
 enum-told c = search needs
@@ -68,14 +67,14 @@ loop-again c =
     let met = was-met (a .there) (k .place) (getD (a .widths .now) (k .i) 0) (c .before .enum-told .given .1) (c .before .before .before .need-at .ensures) in
     (search needs, omega arith, omega arith, k .inv .3 ∙ whole (a .widths .now) (k .place) (k .i) (a .there) (omega arith) met)
 
-refusal-at-requires : tie.Need-refusal-at-requires Inv-loop μ-loop
-refusal-at-requires c κs = search needs
+no-refusal-requires : tie.Need-no-refusal-requires Inv-loop μ-loop
+no-refusal-requires c κs = search needs
 
 returns-2 : tie.Need-returns-2 Inv-loop μ-loop
 returns-2 c =
     let a = c .before .before .before .before .args in
     let k = c .before .before .loop in
-    c .refusal-at .ensures ∙ ap cutAt (sym (k .inv .3 ∙ ended (a .widths .now) (k .place) (k .i) (a .there) (omega arith)))
+    c .no-refusal .ensures ∙ sym (k .inv .3 ∙ ended (a .widths .now) (k .place) (k .i) (a .there) (omega arith))
 
 pub cut-in-spec : {M : Type 1} → statement M
 cut-in-spec =
@@ -96,5 +95,5 @@ cut-in-spec =
     add-i
     loop-less
     loop-again
-    refusal-at-requires
+    no-refusal-requires
     returns-2)

@@ -8,6 +8,7 @@ use Rattle.splitter.proofs.judge.Tie as tie
 use Rattle.wire.specs.Number as Number
 use Rattle.wire.proofs.Needs.{was-met, was-cut}
 use Rattle.splitter.specs.declared.SplitAnswer.{SplitAnswer}
+use Rattle.splitter.proofs.Laws.{missing-behind}
 
 cast-length : tie.Need-cast-length
 cast-length c = search needs
@@ -40,8 +41,9 @@ returns-3 c =
     let n = c .before .before .before .before .before .before .before .args .header .«msg_len» in
     let there = c .before .before .before .before .before .before .before .args .there in
     let lacked = was-cut there 6 (n - 6) (c .before .refusal .given .1) (c .before .before .before .need-at .ensures) in
-    ap SplitAnswer.Refused (lacked .cut-is)
-    ∙ sym (rw (le-ltb n 6 (c .before .before .before .before .before .if1 .left), le-ltb Number.limit n (c .before .before .before .before .if2 .left), lt-ltb there n (omega (arith, lacked .few))))
+    let least = c .before .before .before .before .before .if1 .left in
+    ap SplitAnswer.Refused (lacked .cut-is ∙ missing-behind there n (c .before .before .before .before .before .before .before .pre) least)
+    ∙ sym (rw (le-ltb n 6 least, le-ltb Number.limit n (c .before .before .before .before .if2 .left), lt-ltb there n (omega (arith, lacked .few))))
 
 returns-4 : tie.Need-returns-4
 returns-4 c =
