@@ -51,12 +51,20 @@ NO_TABLE_NAME = 16
 
 
 class Refused(Exception):
-    """A refusal: its number and its place."""
+    """A refusal: its number, its place, and how many bytes are missing, which are some in a Cut and none in any other."""
 
-    def __init__(self, number, place):
-        super().__init__(number, place)
+    def __init__(self, number, place, missing=0):
+        super().__init__(number, place, missing)
         self.number = number
         self.place = place
+        self.missing = missing
+
+
+def require(length, place, need):
+    """Of an input of this length, the field that starts at a place needs so many bytes. Every Cut is raised here."""
+    there = length - place
+    if there < need:
+        raise Refused(CUT, place, need - there)
 
 
 class Good(NamedTuple):
@@ -101,15 +109,13 @@ class Cursor:
 
     def view(self, length):
         place = self.place
-        if len(self.data) - place < length:
-            raise Refused(CUT, place)
+        require(len(self.data), place, length)
         self.place = place + length
         return View(place, length)
 
     def field(self, length):
         place = self.place
-        if len(self.data) - place < length:
-            raise Refused(CUT, place)
+        require(len(self.data), place, length)
         self.place = place + length
         return self.data[place : place + length]
 
@@ -201,13 +207,13 @@ def write_common_header(record, _buffer, output):
 
 
 def split(data):
+    """One message off the front. Its header is all there where it is Cut at 6, so what is missing is its length less all bytes."""
     header = read_common_header(data).record
     if header.msg_len < 6:
         raise Refused(BAD_MESSAGE_LENGTH, 1)
     if header.msg_len > MAX_BYTES:
         raise Refused(TOO_LONG, 1)
-    if len(data) < header.msg_len:
-        raise Refused(CUT, 6)
+    require(len(data), 6, header.msg_len - 6)
     return good(header, header.msg_len)
 
 
@@ -650,10 +656,9 @@ class RouteMonitoring(NamedTuple):
 
 
 def read_route_monitoring(data, asn_length, peer_type):
-    """The whole body is the message, and its own length is not looked at."""
+    """The whole body is the message, and its own length is not looked at: a BGP header is all that it needs."""
     cursor = Cursor(data)
-    if len(data) < LEAST_BGP:
-        raise Refused(CUT, 0)
+    require(len(data), 0, LEAST_BGP)
     warnings = LOC_RIB_16_BIT_AS if peer_type == LOC_RIB and asn_length == 16 else 0
     return good(RouteMonitoring(cursor.view(len(data))), cursor.place, warnings)
 
@@ -731,7 +736,7 @@ def own_length(message):
 
 
 def read_open(cursor):
-    """19 bytes first, then as many as the message's own length says; what lacks bytes is the message."""
+    """19 bytes first, then as many as the message's own length says; what lacks bytes is the message, by the one or the other."""
     start = cursor.place
     length = own_length(cursor.field(LEAST_BGP))
     if length < LEAST_BGP:

@@ -32,6 +32,11 @@ def tlv(kind, value, length=None):
     return u16(kind) + u16(len(value) if length is None else length) + value
 
 
+def counting(length):
+    """As many bytes, of which no two neighbours are alike."""
+    return bytes(1 + place % 250 for place in range(length))
+
+
 def cuts(message):
     """The message cut at each length, the whole one, and the whole one with a tail."""
     return [message[:length] for length in range(len(message) + 1)] + [message + b"\x03", message + b"\x00\x02\x00\x00\x00"]
@@ -270,7 +275,7 @@ def termination_cases():
 
 
 def bgp(length=19, own=None, kind=4):
-    return b"\xff" * 16 + u16(length if own is None else own) + u8(kind) + bytes(range(1, length - 18))
+    return b"\xff" * 16 + u16(length if own is None else own) + u8(kind) + counting(length - 19)
 
 
 def mirroring_cases():
@@ -381,6 +386,96 @@ def openbmp_cases():
     yield from damaged([open_bmp(), open_bmp(flags=0xC0, admin=b"", group=b"")], 25, 8)
 
 
+# What a Cut lacks: each field of each reader and of the splitter.
+
+
+def messages_by_fields():
+    """Verb, arguments, a message, and how many bytes each of its fields needs, one behind the other and none left out.
+
+    An OPEN needs its header first and then its own length, so it stands here as its header and the rest. Of a TLV only the value can
+    be Cut, and in Initiation not even that; its type and its length are here to show that they are not.
+    """
+    yield "common", "-", common(), {"version": 1, "length": 4, "type": 1}
+    yield "perpeer", "-", peer(flags=0x80, **FULL), {
+        "type": 1, "flags": 1, "distinguisher": 8, "address": 16, "AS": 4, "BGP ID": 4, "seconds": 4, "microseconds": 4,
+    }  # fmt: skip
+    for length in (6, 7, 9, 300):
+        yield "split", "-", common(length=length) + counting(length - 6), {"version": 1, "length": 4, "type": 1, "rest": length - 6}
+    for one, two in ((1, 4), (4, 8), (8, 11), (11, 300), (300, 0), (0, 1)):
+        yield "stats", "-", stats([tlv(7, counting(one)), tlv(9, counting(two))]), {
+            "count": 4, "type": 2, "length": 2, "value": one, "second type": 2, "second length": 2, "second value": two,
+        }  # fmt: skip
+    yield "initiation", "-", tlv(1, counting(3)) + tlv(2, counting(300)), {
+        "type": 2, "length": 2, "value": 3, "second type": 2, "second length": 2, "second value": 300,
+    }  # fmt: skip
+    for length in (0, 1, 2):
+        yield "termination", "-", reason(3, length), {"type": 2, "length": 2, "reason": 2}
+        yield "termination", "-", tlv(0, b"bye") + reason(3, length), {"first TLV": 7, "type": 2, "length": 2, "reason": 2}
+    for value in (19, 20, 300):
+        whole = tlv(0, bgp(value))
+        yield "mirroring", "asn=32,type=0", whole, {"type": 2, "length": 2, "BGP message": value}
+        yield "mirroring", "asn=32,type=0", tlv(1, u16(1)) + whole, {"first TLV": 6, "type": 2, "length": 2, "BGP message": value}
+    for length in (0, 1, 2, 300):
+        whole = tlv(1, u16(1), length)
+        yield "mirroring", "asn=32,type=0", whole, {"type": 2, "length": 2, "information": 2}
+        yield "mirroring", "asn=32,type=0", tlv(0, bgp()) + whole, {"first TLV": 23, "type": 2, "length": 2, "information": 2}
+    yield "monitoring", "asn=32,type=0", bgp(300), {"header of the BGP message": 19, "rest of the BGP message": 281}
+    yield "peerdown", "-", u8(4), {"reason": 1}
+    for sent, received, one, two in ((19, 29, 1, 6), (29, 300, 6, 300), (300, 19, 300, 1)):
+        opens = {"sent": bgp(sent, kind=1), "received": bgp(received, kind=1)}
+        yield "peerup", "afi=4,asn=32,type=0", peer_up(tlv(0, counting(one)), tlv(3, counting(two)), **opens), {
+            "local address": 16, "local port": 2, "remote port": 2,
+            "header of the sent OPEN": 19, "rest of the sent OPEN": sent - 19,
+            "header of the received OPEN": 19, "rest of the received OPEN": received - 19,
+            "type": 2, "length": 2, "value": one, "second type": 2, "second length": 2, "second value": two,
+        }  # fmt: skip
+    for admin, group in ((3, 5), (0, 300), (300, 0)):
+        yield "openbmp", "-", open_bmp(admin=counting(admin), group=counting(group)), {
+            "magic number": 4, "major version": 1, "minor version": 1, "header length": 2, "message length": 4, "flags": 1,
+            "object type": 1, "seconds": 4, "microseconds": 4, "collector hash": 16, "admin's length": 2, "admin": admin,
+            "router hash": 16, "router's address": 16, "group's length": 2, "group": group, "row count": 4,
+        }  # fmt: skip
+
+
+def cut_fields():
+    """Each field with no byte of it there, with one, and with all but one."""
+    for verb, args, message, fields in messages_by_fields():
+        start = 0
+        for need in fields.values():
+            yield from [(verb, args, message[: start + there]) for there in (0, 1, need - 1) if 0 <= there < need]
+            start += need
+
+
+def waits():
+    """Verb, arguments, bytes that are Cut, and as many more as they lack. An OPEN of which only the header came is then Cut once more."""
+    ports, sent, received = peer_up(sent=b"", received=b""), bgp(29, kind=1), bgp(21, kind=1)
+    mirroring = monitoring = "asn=32,type=0"
+    up, more = "afi=4,asn=32,type=0", b"\xff" * 300
+    return [
+        ("common", "-", common()[:2], more[:3]), ("common", "-", common()[:5], more[:1]),
+        ("split", "-", common()[:2], more[:3]), ("split", "-", common(length=9), more[:3]), ("split", "-", common(length=300), more[:294]),
+        ("perpeer", "-", peer()[:5], more[:5]), ("perpeer", "-", peer()[:12], more[:14]), ("perpeer", "-", peer()[:41], more[:1]),
+        ("stats", "-", u8(0), more[:3]), ("stats", "-", stats([tlv(9, u16(1), 11)]), more[:9]),
+        ("stats", "-", stats([tlv(24, b""), tlv(44, b"", 300)]), more[:300]),
+        ("termination", "-", tlv(1, u8(0), 0), more[:1]), ("termination", "-", reason(1) + tlv(1, u8(0)), u8(4)),
+        ("mirroring", mirroring, tlv(0, u8(0), 19), more[:18]), ("mirroring", mirroring, tlv(0, bytes(7), 300), more[:293]),
+        ("mirroring", mirroring, tlv(1, u8(0)), more[:1]), ("mirroring", mirroring, tlv(1, u8(0), 300), u8(1)),
+        ("monitoring", monitoring, bytes(5), more[:14]), ("peerdown", "-", b"", more[:1]), ("peerdown", "-", b"", u8(4)),
+        ("peerup", up, ports[:3], more[:13]), ("peerup", up, ports[:17], more[:1]),
+        ("peerup", up, ports + sent[:3], sent[3:19]), ("peerup", up, ports + sent[:19], sent[19:]),
+        ("peerup", up, ports + sent, received[:19]), ("peerup", up, ports + sent + received[:19], received[19:]),
+        ("peerup", up, ports + sent + received[:1], more[:18]), ("peerup", up, peer_up(tlv(0, b"A", 300)), more[:299]),
+        ("openbmp", "-", open_bmp()[:2], b"MP"), ("openbmp", "-", open_bmp()[:23], more[:15]), ("openbmp", "-", open_bmp()[:39], more[:1]),
+        ("openbmp", "-", open_bmp(admin_length=300)[:50], more[:290]), ("openbmp", "-", open_bmp()[:-1], u8(1)),
+    ]  # fmt: skip
+
+
+def waiting():
+    """What is Cut alone, with fewer bytes behind it than it lacks, and with just as many."""
+    for verb, args, there, more in waits():
+        yield from [(verb, args, there + more[:length]) for length in (0, 1, len(more) - 1, len(more))]
+
+
 # Lines.
 
 
@@ -415,6 +510,14 @@ def argument_lines():
     for args in ("afi=4,asn=32,type=3", "afi=6,asn=16,type=3", "afi=6,asn=32,type=1"):
         for data in table_name_cases():
             yield from both("peerup", args, data)
+
+
+def missing_lines(known):
+    """What a Cut lacks, in lines that are not known yet; the last two have as many bytes as a slice may have, or one less."""
+    lines = [line(*case) for case in (*cut_fields(), *waiting())]
+    yield from [new for new in dict.fromkeys(lines) if new not in known]
+    yield text_line("split", "-", common(length=LIMIT), (LIMIT - 7, b"\x00"))
+    yield text_line("stats", "-", *whole_table(u32(17)))
 
 
 def text_line(verb, args, *parts):
@@ -699,10 +802,10 @@ def bad_lines():
 
 
 def lines():
-    yield from reader_lines()
-    yield from argument_lines()
-    yield from [line("split", "-", data) for data in split_cases()]
+    known = [*reader_lines(), *argument_lines(), *(line("split", "-", data) for data in split_cases())]
+    yield from known
     yield from [line("equal", "-", data) for data in equal_cases()]
+    yield from missing_lines(set(known))
     yield from longest_lines()
     yield from limit_lines()
     yield from [b"equal - 84*00", b"equal - 2*" + peer().hex().encode()]

@@ -7,9 +7,9 @@
 L is how many bytes the line has, and for a record that is made one byte longer one more. R is the output's length: L + 1, L, L - 1 and 0;
 where the line has as many bytes as a slice may have, also 1,048,577 and 0 for the longer record. Where the line has fewer than 65,536 bytes,
 C goes through the changes that docs/REPLAY.md lists for the reader, each into an output of 1,048,577 bytes. The answer is
-`written N inside=SAME`, by whether the bytes are those of the line, or a refusal of the reader or the writer. All of an array of 1,048,577
-bytes, of which the output is the first part, is compared with what it held before. V goes through the values and lengths of Statistics that
-docs/REPLAY.md lists, made of the first counter, and what is said of each is `writable` or `not writable`.
+`written N inside=SAME`, by whether the bytes are those of the line, or a refusal of the reader or the writer, in the words of replay. All of
+an array of 1,048,577 bytes, of which the output is the first part, is compared with what it held before. V goes through the values and
+lengths of Statistics that docs/REPLAY.md lists, made of the first counter, and what is said of each is `writable` or `not writable`.
 """
 
 import sys
@@ -231,7 +231,7 @@ def write_answer(writer, find_record, buffer, room):
         said = f"written {length} inside={same(output[:length] == buffer[:length])}"
     except bmp.Refused as refusal:
         length = 0
-        said = f"refused {refusal.number} at {refusal.place}"
+        said = replay.show_refusal(refusal)
     array[:room] = output
     return f"{said} outside={same(array[length:] == bytearray([UNTOUCHED]) * (LIMIT + 1 - length))}"
 

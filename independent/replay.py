@@ -168,7 +168,7 @@ def run_equal(data, _arguments):
     try:
         other = bmp.read_per_peer_header(data[42:]).record
     except bmp.Refused as refusal:
-        raise bmp.Refused(refusal.number, refusal.place + 42) from None
+        raise bmp.Refused(refusal.number, refusal.place + 42, refusal.missing) from None
     stripped = bmp.equal_headers(bmp.strip_timestamp(one), bmp.strip_timestamp(other))
     return f"{yes_or_no(bmp.equal_headers(one, other))} {yes_or_no(stripped)}"
 
@@ -224,6 +224,12 @@ def bytes_of(text):
     return bytes(data)
 
 
+def show_refusal(refusal):
+    """What is missing is said of a Cut alone: of every other refusal it is nothing."""
+    missing = f" missing {refusal.missing}" if refusal.number == bmp.CUT else ""
+    return f"refused {refusal.number} at {refusal.place}{missing}"
+
+
 def answer(line):
     """The answer to a line that is not empty, given without its LF."""
     fields = line.split(b" ")
@@ -236,7 +242,7 @@ def answer(line):
     try:
         return run(data, arguments[fields[1]])
     except bmp.Refused as refusal:
-        return f"refused {refusal.number} at {refusal.place}"
+        return show_refusal(refusal)
 
 
 def main():

@@ -10,6 +10,7 @@ import ast
 import glob
 import ipaddress
 import os
+import random
 import re
 import subprocess
 import sys
@@ -18,7 +19,9 @@ import unittest
 from fractions import Fraction
 
 import bmp
+import cases
 import listing
+import records
 import replay
 
 FOLDER = sys.argv[1] if len(sys.argv) > 1 else None
@@ -64,28 +67,29 @@ class Examples(unittest.TestCase):
         split - 030000000506                         | refused 10 at 1
         initiation - 0002000541                      | good stop=4 tail=0 warn=0 tlvs=[]
         initiation - 00020001410001000142            | good stop=10 tail=10 warn=0 tlvs=[2:1:N:41,1:1:N:42]
-        termination - 0001000103                     | refused 2 at 4
+        termination - 0001000103                     | refused 2 at 4 missing 1
         mirroring asn=32,type=0 000100070001         | good stop=6 tail=6 warn=0 tlvs=[1:7:info1]
         rewrite-mirroring asn=32,type=0 000100070001 | refused 12 at 0
         stats - 00000001000700080000000000000100     | good stop=16 tail=16 warn=0 count=1 counters=[7:8:N:G256]
         peerdown - 01                                | good stop=1 tail=1 warn=0 reason=1 data=some:
         rewrite-peerdown - 04aa                      | written 1 04a5a5
-        common - 0300                                | refused 2 at 1
+        common - 0300                                | refused 2 at 1 missing 3
+        split - 030000000906                         | refused 2 at 6 missing 3
         Common - 0300                                | bad line
         rewrite-initiation - -                       | written 0 a5a5
-        common - -                                   | refused 2 at 0
+        common - -                                   | refused 2 at 0 missing 1
         common - 02                                  | refused 3 at 0
         common - 030000000004                        | good stop=6 tail=6 warn=0 version=3 length=0 type=4
         stats - 00000001000700040000000 3            | bad line
         stats - 000000010007000400000003             | good stop=12 tail=12 warn=0 count=1 counters=[7:4:N:C3]
-        stats - 000000010009000b0001                 | refused 2 at 8
+        stats - 000000010009000b0001                 | refused 2 at 8 missing 9
         initiation - 0002000141                      | good stop=5 tail=5 warn=0 tlvs=[2:1:N:41]
         termination - 0002000541                     | refused 4 at 0
         termination - 0000000541                     | good stop=4 tail=0 warn=0 tlvs=[]
         mirroring asn=16,type=3 0002000000           | refused 5 at 0
         mirroring asn=16,type=3 0000001200           | refused 6 at 2
-        mirroring asn=16,type=3 0000001300           | refused 2 at 4
-        mirroring asn=16,type=3 0001000200           | refused 2 at 4
+        mirroring asn=16,type=3 0000001300           | refused 2 at 4 missing 18
+        mirroring asn=16,type=3 0001000200           | refused 2 at 4 missing 1
         mirroring asn=16,type=3 000100020002         | refused 4 at 4
         peerdown - 04aa                              | good stop=1 tail=1 warn=0 reason=4 data=none
     """
@@ -106,15 +110,13 @@ class Rules(unittest.TestCase):
     def test_numbers_in_order_of_the_bytes(self):
         self.assertEqual(ask("split", "03 00000005 07"), "refused 4 at 5")
         self.assertEqual(ask("split", "03 00100001 04"), "refused 1 at 1")
-        self.assertEqual(ask("split", "03 00100000 04"), "refused 2 at 6")
-        self.assertEqual(ask("split", "03 00000007 04"), "refused 2 at 6")
+        self.assertEqual(ask("split", "03 00100000 04"), "refused 2 at 6 missing 1048570")
+        self.assertEqual(ask("split", "03 00000007 04"), "refused 2 at 6 missing 1")
         self.assertEqual(ask("split", "03 00000006 04 ff"), "good stop=6 tail=6 warn=0 length=6 type=4")
 
     def test_per_peer_header_cut(self):
-        starts = [0, 1, 2, 10, 26, 30, 34, 38]
-        for length in range(42):
-            field = max(start for start in starts if start <= length)
-            self.assertEqual(ask("perpeer", digits(HEADER)[: 2 * length]), f"refused 2 at {field}")
+        self.assertEqual(ask("perpeer", digits(HEADER)[:50]), "refused 2 at 10 missing 1")
+        self.assertEqual(ask("perpeer", digits(HEADER)[:58]), "refused 2 at 26 missing 1")
         self.assertTrue(ask("perpeer", HEADER).startswith("good stop=42 tail=42 warn=0 "))
         self.assertEqual(ask("perpeer", "04"), "refused 4 at 0")
 
@@ -169,10 +171,10 @@ class Rules(unittest.TestCase):
         self.assertEqual(ask("mirroring", information * 32 + "0001 0002 0002", "asn=32,type=0"), "refused 4 at 196")
         self.assertTrue(ask("peerup", peer_up("00000000" * 32), "afi=4,asn=32,type=0").startswith("good stop=196 "))
         self.assertEqual(ask("peerup", peer_up("00000000" * 33), "afi=4,asn=32,type=0"), "refused 7 at 196")
-        self.assertEqual(ask("peerup", peer_up("00000000" * 32 + "00000001"), "afi=4,asn=32,type=0"), "refused 2 at 200")
+        self.assertEqual(ask("peerup", peer_up("00000000" * 32 + "00000001"), "afi=4,asn=32,type=0"), "refused 2 at 200 missing 1")
         self.assertTrue(ask("stats", "00000040" + "00000000" * 64).startswith("good stop=260 "))
         self.assertEqual(ask("stats", "00000041" + "00000000" * 65), "refused 7 at 260")
-        self.assertEqual(ask("stats", "00000041" + "00000000" * 64 + "00000001"), "refused 2 at 264")
+        self.assertEqual(ask("stats", "00000041" + "00000000" * 64 + "00000001"), "refused 2 at 264 missing 1")
 
     def test_termination(self):
         self.assertEqual(ask("termination", "0001 0000 0003 00"), "good stop=6 tail=6 warn=0 tlvs=[1:0:reason3]")
@@ -187,7 +189,7 @@ class Rules(unittest.TestCase):
         self.assertEqual(ask("rewrite-termination", "0000 0000 00"), "refused 12 at 0")
 
     def test_route_monitoring(self):
-        self.assertEqual(ask("monitoring", "00" * 18, "asn=32,type=0"), "refused 2 at 0")
+        self.assertEqual(ask("monitoring", "00" * 18, "asn=32,type=0"), "refused 2 at 0 missing 1")
         self.assertEqual(ask("monitoring", "00" * 19, "asn=32,type=3"), "good stop=19 tail=19 warn=0 bgp=" + "00" * 19)
         self.assertEqual(ask("monitoring", "00" * 20, "asn=16,type=3"), "good stop=20 tail=20 warn=4 bgp=" + "00" * 20)
 
@@ -196,9 +198,9 @@ class Rules(unittest.TestCase):
         short = open_message(19, own=18)
         self.assertEqual(ask("peerup", peer_up(sent=short), args), "refused 6 at 36")
         self.assertEqual(ask("peerup", peer_up(received=short), args), "refused 6 at 65")
-        self.assertEqual(ask("peerup", peer_up(received=open_message(19, own=20)), args), "refused 2 at 49")
-        self.assertEqual(ask("peerup", peer_up()[:-2], args), "refused 2 at 49")
-        self.assertEqual(ask("peerup", peer_up("00030001"), args), "refused 2 at 72")
+        self.assertEqual(ask("peerup", peer_up(received=open_message(19, own=20)), args), "refused 2 at 49 missing 1")
+        self.assertEqual(ask("peerup", peer_up()[:-2], args), "refused 2 at 49 missing 1")
+        self.assertEqual(ask("peerup", peer_up("00030001"), args), "refused 2 at 72 missing 1")
         self.assertEqual(
             ask("peerup", peer_up("00030000 0005000141 000000"), "afi=4,asn=32,type=3"),
             "good stop=77 tail=77 warn=8 fam=4 local=0000000000000000000000000a000002 lport=179 rport=49153 sent="
@@ -227,13 +229,9 @@ class Rules(unittest.TestCase):
             ("refused 9 at 12", open_bmp(flags="7f", kind="0b")),
             ("refused 9 at 13", open_bmp(kind="0d")),
             ("refused 8 at 77", open_bmp(rows="00000002")),
-            ("refused 2 at 40", open_bmp(admin="ffff")),
+            ("refused 2 at 40 missing 65496", open_bmp(admin="ffff")),
         ):
             self.assertEqual(ask("openbmp", header), expected)
-        starts = [0, 4, 5, 6, 8, 12, 13, 14, 18, 22, 38, 40, 42, 58, 74, 76, 77]
-        for length in range(81):
-            field = max(start for start in starts if start <= length)
-            self.assertEqual(ask("openbmp", open_bmp()[: 2 * length]), f"refused 2 at {field}")
 
     def test_names(self):
         named = [*range(24), *range(26, 44)]
@@ -248,7 +246,7 @@ class Rules(unittest.TestCase):
             arguments = {"read_route_monitoring": (32, 0), "read_peer_up_notification": (4, 0)}.get(reader.__name__, ())
             with self.assertRaises(bmp.Refused) as refusal:
                 reader(body, *arguments)
-            self.assertEqual((refusal.exception.number, refusal.exception.place), (1, 0))
+            self.assertEqual((refusal.exception.number, refusal.exception.place, refusal.exception.missing), (1, 0, 0))
         self.assertEqual(bmp.read_route_monitoring(body[1:], 32, 0).stop, 1_048_576)
 
     def test_bad_lines(self):
@@ -309,6 +307,129 @@ class Rules(unittest.TestCase):
         self.assertEqual(stripped[:6], header[:6])
 
 
+def in_row(*places):
+    """Fields one behind the other: each is Cut at its start, from there up to its end."""
+    return list(zip(places, places[1:], places))
+
+
+class Missing(unittest.TestCase):
+    """What a Cut lacks, and that one who has waited for it is not told to wait there again."""
+
+    # Verb, arguments, a message; and from which length, up to which length that would do, it is Cut at which place.
+    CUTS = [
+        ("common", "-", "03 00000006 04", in_row(0, 1, 5, 6)),
+        ("perpeer", "-", HEADER, in_row(0, 1, 2, 10, 26, 30, 34, 38, 42)),
+        ("perpeer", "-", LOC_RIB_HEADER, in_row(0, 1, 2, 10, 26, 30, 34, 38, 42)),
+        ("split", "-", "03 00000006 04", in_row(0, 1, 5, 6)),
+        ("split", "-", "03 00000009 04 aabbcc dd", in_row(0, 1, 5, 6, 9)),
+        ("stats", "-", "00000002 0009 000b 0001 01 0000000000000005 0007 0003 414243", in_row(0, 4, 6, 8, 19, 21, 23, 26)),
+        ("initiation", "-", "0001 0003 616263 0000 0002 6162", []),
+        ("termination", "-", "0000 0003 627965 0001 0000 0003", [(12, 13, 11)]),
+        ("termination", "-", "0000 0003 627965 0001 0001 0003", [(12, 13, 11)]),
+        ("termination", "-", "0000 0003 627965 0001 0002 0003", []),
+        ("mirroring", "asn=32,type=0", "0001 0007 0001 0000 0014" + "ff" * 20, [(5, 6, 4), (11, 30, 10)]),
+        ("monitoring", "asn=32,type=0", "ff" * 25, [(0, 19, 0)]),
+        ("peerdown", "-", "04 aa", [(0, 1, 0)]),
+        (
+            "peerup", "afi=4,asn=32,type=0", peer_up("0003 0002 4142 0000 0001 43"),
+            in_row(0, 16, 18, 20) + [(20, 39, 20), (39, 49, 20), (49, 68, 49), (72, 74, 72), (78, 79, 78)],
+        ),
+        ("openbmp", "-", open_bmp(), in_row(0, 4, 5, 6, 8, 12, 13, 14, 18, 22, 38, 40, 42, 58, 74, 76, 77, 81)),
+        ("openbmp", "-", open_bmp(admin="0000", group="0000"), in_row(0, 4, 5, 6, 8, 12, 13, 14, 18, 22, 38, 40, 56, 72, 74, 78)),
+    ]
+
+    READERS = {**replay.READERS, b"split": (replay.NO_ARGUMENTS, bmp.split)}
+
+    def test_each_field_at_every_length(self):
+        for verb, args, message, cuts in self.CUTS:
+            for length in range(len(digits(message)) // 2 + 1):
+                expected = [f"refused 2 at {place} missing {end - length}" for first, end, place in cuts if first <= length < end]
+                for asked in (verb,) if verb == "split" else (verb, "rewrite-" + verb):
+                    answer = ask(asked, digits(message)[: 2 * length], args)
+                    self.assertEqual([answer] if answer.startswith("refused 2 ") else [], expected, (asked, length))
+
+    def test_largest_needs(self):
+        self.assertEqual(replay.answer(b"split - 030010000004+1048569*00"), "refused 2 at 6 missing 1")
+        self.assertEqual(replay.answer(b"split - 030010000004+1048570*00"), "good stop=1048576 tail=1048576 warn=0 length=1048576 type=4")
+        self.assertEqual(ask("stats", "00000001 0007 ffff"), "refused 2 at 8 missing 65535")
+        self.assertEqual(ask("stats", "ffffffff 0007 0000"), "refused 2 at 8 missing 2")
+        self.assertEqual(ask("mirroring", "0000 ffff 00", "asn=32,type=0"), "refused 2 at 4 missing 65534")
+        self.assertEqual(ask("mirroring", "0001 ffff 00", "asn=32,type=0"), "refused 2 at 4 missing 1")
+        args, longest = "afi=4,asn=32,type=0", open_message(19, own=65_535)
+        self.assertEqual(ask("peerup", peer_up(sent=longest, received=b""), args), "refused 2 at 20 missing 65516")
+        self.assertEqual(ask("peerup", peer_up(received=longest), args), "refused 2 at 49 missing 65516")
+        self.assertEqual(ask("peerup", peer_up("0000 ffff"), args), "refused 2 at 72 missing 65535")
+
+    def refusal(self, verb, args, data):
+        """Number, place and what is missing; of a good answer three zeros."""
+        arguments, reader = self.READERS[verb.encode()][:2]
+        try:
+            reader(data, **arguments[args.encode()])
+        except bmp.Refused as refusal:
+            self.assertEqual(refusal.missing > 0, refusal.number == 2)
+            return refusal.number, refusal.place, refusal.missing
+        return 0, 0, 0
+
+    def lacks_header(self, verb, data, place):
+        """An OPEN of which fewer than 19 bytes are there: the sent one starts at 20, and the received one behind it."""
+        starts = (20, 20 + int.from_bytes(data[36:38], "big"))
+        return verb == "peerup" and place in starts and len(data) < place + 19
+
+    def check_wait(self, verb, args, data):
+        """Fewer bytes than are missing are not enough, and as many are, whatever the bytes are."""
+        number, place, missing = self.refusal(verb, args, data)
+        if number != 2:
+            return
+        for length in {1, 2, missing // 2, missing - 1, missing, missing + 1, missing + 9}:
+            for more in (bytes(length), self.random.randbytes(length)):
+                again = self.refusal(verb, args, data + more)
+                if length < missing:
+                    self.assertEqual(again, (2, place, missing - length), (verb, data, more))
+                elif again[:2] == (2, place):
+                    self.assertTrue(self.lacks_header(verb, data, place), (verb, data, more))
+                    self.assertFalse(self.lacks_header(verb, data + more, place), (verb, data, more))
+                    self.check_wait(verb, args, data + more)
+
+    def test_waiting(self):
+        """The messages of the list and damaged copies of them, each cut at every length."""
+        self.random = random.Random(1)
+        for verb, args, message, _fields in cases.messages_by_fields():
+            for copy in [message, *cases.damaged([message], 4, 9)]:
+                for length in range(len(copy) + 1):
+                    self.check_wait(verb, args, copy[:length])
+
+    def test_an_open_twice(self):
+        """Its header first, and then its own length; the place is the same."""
+        for length, place, missing in ((20, 20, 19), (38, 20, 1), (39, 20, 10), (48, 20, 1), (49, 49, 19)):
+            expected = f"refused 2 at {place} missing {missing}"
+            self.assertEqual(ask("peerup", peer_up()[: 2 * length], "afi=4,asn=32,type=0"), expected)
+
+    def test_list(self):
+        """The list's messages have no bytes but their fields', and its waits are over with the bytes that they name."""
+        for verb, _args, message, fields in cases.messages_by_fields():
+            self.assertEqual(len(message), sum(fields.values()), verb)
+        for verb, args, there, more in cases.waits():
+            self.assertEqual(self.refusal(verb, args, there)[::2], (2, len(more)), (verb, there))
+        verbs = {verb for verb, _args, _message, _fields in cases.messages_by_fields()}
+        self.assertEqual(verbs, {verb.decode() for verb in self.READERS})
+
+    def test_words(self):
+        """The words stand behind each 2 of the list, and behind no other number."""
+        words = re.compile(r"refused 2 at \d+ missing [1-9]\d*|refused ([13-9]|1[0-2]) at \d+")
+        answers = [replay.answer(line) for line in cases.lines() if line]
+        for answer in answers:
+            self.assertEqual(answer.startswith("refused"), words.fullmatch(answer) is not None, answer)
+
+    def test_records(self):
+        expected = "refused 2 at 0 missing 1 outside=same"
+        self.assertEqual(
+            list(records.answers(b"rewrite-peerdown - -")),
+            [f"write peerdown 0 into {room}: {expected}" for room in (1, 0, 0, 0)]
+            + [f"change peerdown {change}: {expected}" for change in (2, 3, 4, 5)],
+        )
+        self.assertEqual(list(records.answers(b"rewrite-common - 030000000607"))[0], "write common 6 into 7: refused 4 at 5 outside=same")
+
+
 class Programs(unittest.TestCase):
     """The programs as they are run."""
 
@@ -321,7 +442,7 @@ class Programs(unittest.TestCase):
 
     def test_replay(self):
         given = b"common - 0300\n\nCommon - 0300\ncommon - 0300\r\n\n\npeerdown - 01"
-        expected = b"refused 2 at 1\nbad line\nbad line\ngood stop=1 tail=1 warn=0 reason=1 data=some:\n"
+        expected = b"refused 2 at 1 missing 3\nbad line\nbad line\ngood stop=1 tail=1 warn=0 reason=1 data=some:\n"
         self.assertEqual(self.run_program("replay.py", given=given), expected)
         self.assertEqual(self.run_program("replay.py"), b"")
 
@@ -346,7 +467,7 @@ class NotWritable(unittest.TestCase):
         try:
             writer(record, buffer, output)
         except bmp.Refused as refusal:
-            self.assertEqual((refusal.place, bytes(output)), (0, b"\xa5" * room))
+            self.assertEqual((refusal.place, refusal.missing, bytes(output)), (0, 0, b"\xa5" * room))
             return refusal.number
         return 0
 
