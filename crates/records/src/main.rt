@@ -7,6 +7,7 @@ use trial_input::Input;
 use trial_line::Asked;
 use trial_line::Command;
 use trial_line::Verb;
+use wire::Refusal;
 use wire::View;
 use writing::WriteAnswer;
 
@@ -41,6 +42,8 @@ const CHANGED: usize = 7;
 const WRITABLE: usize = 8;
 
 const NOT_WRITABLE: usize = 9;
+
+const CUT: usize = 10;
 
 fn main() {
     let mut piece = [0u8; 4_096];
@@ -244,7 +247,7 @@ fn print_written(answer: WriteAnswer, bytes: &[u8], out: &[u8]) {
             print_outside(out, length);
         }
         WriteAnswer::Refused(refusal) => {
-            print(NOT_WRITTEN, refusal.number as usize, refusal.place);
+            print_refusal(refusal);
             print_outside(out, 0);
         }
     }
@@ -290,10 +293,23 @@ fn is_untouched(out: &[u8], start: usize) -> bool {
     true
 }
 
-// Prints a form with its numbers (docs/REPLAY.md, "Forms").
+// A Cut alone says what is missing.
+fn print_refusal(refusal: Refusal) {
+    if refusal.number == wire::CUT {
+        print_three(CUT, refusal.number as usize, refusal.place, refusal.missing);
+    } else {
+        print(NOT_WRITTEN, refusal.number as usize, refusal.place);
+    }
+}
+
 fn print(form: usize, first: usize, second: usize) {
-    let mut text = [0u8; 64];
-    let shown = trial_forms::of_five(form, 0, first as u64, second as u64, 0, 0, 0);
+    print_three(form, first, second, 0);
+}
+
+// Prints a form with its numbers (docs/REPLAY.md, "Forms").
+fn print_three(form: usize, first: usize, second: usize, third: usize) {
+    let mut text = [0u8; 96];
+    let shown = trial_forms::of_five(form, 0, first as u64, second as u64, third as u64, 0, 0);
     let end = put(&mut text, shown);
     trial_input::write(trial_input::front(&text, end));
 }
@@ -308,6 +324,7 @@ fn put(text: &mut [u8], shown: Shown) -> usize {
         outside=other\n|\
         \x20#: |\
         value stats #: writable\n|\
-        value stats #: not writable\n|";
+        value stats #: not writable\n|\
+        refused # at # missing # |";
     trial_forms::put_shown(text, 0, forms, shown, b"")
 }

@@ -111,7 +111,7 @@ fn kind_of(command: Command) -> Kind {
 fn is_rewritten(command: Command, form: usize) -> bool {
     let verb = command.verb;
     match verb {
-        Verb::Rewrite(_) => form != trial_forms::REFUSED,
+        Verb::Rewrite(_) => trial_forms::CUT < form,
         _ => false,
     }
 }

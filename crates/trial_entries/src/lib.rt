@@ -236,11 +236,12 @@ pub fn equal(body: &[u8]) -> Shown {
     trial_forms::judged(first.refusal, second_answer)
 }
 
-// The place counts from the first header's start.
+// The place counts from the first header's start, and what is missing stays.
 fn behind_header(refusal: Refusal) -> Refusal {
     Refusal {
         number: refusal.number,
         place: std::num::wrapping_add_usize(refusal.place, 42),
+        missing: refusal.missing,
     }
 }
 

@@ -19,9 +19,13 @@ ofFive form count a b c d e =
 abbrev pub bare : ℕ → Shown
 bare form = ofFive form 0 0 0 0 0 0
 
--- a refusal is form 0 with its number and its place
+-- a Cut is form 1, any other refusal form 0
+abbrev pub refusedForm : ℕ → ℕ
+refusedForm number = pick (eqb number Number.Cut) 1 0
+
+-- a refusal with its number, its place, and what is missing
 abbrev pub refusedAs : Refusal → Shown
-refusedAs r = ofFive 0 0 (r .number) (r .place) 0 0 0
+refusedAs r = ofFive (refusedForm (r .number)) 0 (r .number) (r .place) (r .missing) 0 0
 
 -- a good answer, or the refusal in its place
 abbrev pub judgedAs : Refusal → Shown → Shown

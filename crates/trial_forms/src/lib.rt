@@ -11,7 +11,7 @@ ghost use Prim.Native.Nat.{_<_, _≤_};
 ghost use Rattle.writing.specs.Write.{putAt};
 ghost use Rattle.decimal.specs.Decimal.{decimal};
 ghost use Rattle.trial_forms.specs.Kinds.{kindAt};
-ghost use Rattle.trial_forms.specs.Shown.{ofFive, bare, refusedAs, judgedAs};
+ghost use Rattle.trial_forms.specs.Shown.{ofFive, bare, refusedForm, refusedAs, judgedAs};
 ghost use Rattle.trial_forms.specs.Text.{placeAfter, hexDigit, hex};
 
 // What is read and written.
@@ -71,70 +71,73 @@ pub fn of_five(form: usize, count: usize, a: u64, b: u64, c: u64, d: u64, e: u64
     }
 }
 
-// The numbers of the forms. The three from PEER_UP on begin a table, whose entries follow, and then TABLE_END.
+// The numbers of the forms. The first two are refusals. The three from PEER_UP on begin a table, whose entries follow, and then TABLE_END.
 pub const REFUSED: usize = 0;
 
-pub const BAD_LINE: usize = 1;
+pub const CUT: usize = 1;
 
-pub const WRITTEN: usize = 2;
+pub const BAD_LINE: usize = 2;
 
-pub const YES_YES: usize = 3;
+pub const WRITTEN: usize = 3;
 
-pub const YES_NO: usize = 4;
+pub const YES_YES: usize = 4;
 
-pub const NO_YES: usize = 5;
+pub const YES_NO: usize = 5;
 
-pub const NO_NO: usize = 6;
+pub const NO_YES: usize = 6;
 
-pub const COMMON: usize = 7;
+pub const NO_NO: usize = 7;
 
-pub const SPLIT: usize = 8;
+pub const COMMON: usize = 8;
 
-pub const TIMELESS_PEER: usize = 9;
+pub const SPLIT: usize = 9;
 
-pub const TIMED_PEER: usize = 10;
+pub const TIMELESS_PEER: usize = 10;
 
-pub const OPENBMP: usize = 11;
+pub const TIMED_PEER: usize = 11;
 
-pub const PEER_DOWN: usize = 12;
+pub const OPENBMP: usize = 12;
 
-pub const PEER_DOWN_DATA: usize = 13;
+pub const PEER_DOWN: usize = 13;
 
-pub const MONITORING: usize = 14;
+pub const PEER_DOWN_DATA: usize = 14;
 
-pub const PEER_UP: usize = 15;
+pub const MONITORING: usize = 15;
 
-pub const STATS: usize = 16;
+pub const PEER_UP: usize = 16;
 
-pub const TLVS: usize = 17;
+pub const STATS: usize = 17;
 
-pub const COUNTER: usize = 18;
+pub const TLVS: usize = 18;
 
-pub const GAUGE: usize = 19;
+pub const COUNTER: usize = 19;
 
-pub const AFI_SAFI_GAUGE: usize = 20;
+pub const GAUGE: usize = 20;
 
-pub const RAW: usize = 21;
+pub const AFI_SAFI_GAUGE: usize = 21;
 
-pub const NAMED_TLV: usize = 22;
+pub const RAW: usize = 22;
 
-pub const UNKNOWN_TLV: usize = 23;
+pub const NAMED_TLV: usize = 23;
 
-pub const STRING: usize = 24;
+pub const UNKNOWN_TLV: usize = 24;
 
-pub const REASON: usize = 25;
+pub const STRING: usize = 25;
 
-pub const BGP_MESSAGE: usize = 26;
+pub const REASON: usize = 26;
 
-pub const INFORMATION: usize = 27;
+pub const BGP_MESSAGE: usize = 27;
 
-pub const TABLE_END: usize = 28;
+pub const INFORMATION: usize = 28;
 
-pub const NOTHING: usize = 29;
+pub const TABLE_END: usize = 29;
+
+pub const NOTHING: usize = 30;
 
 // Puts an answer or an entry by its form. The forms stand in the order of their numbers, and each ends at a bar.
 pub fn put(out: &mut [u8], at: usize, shown: Shown, body: &[u8]) -> usize {
     let forms = b"refused # at #\n|\
+        refused # at # missing #\n|\
         bad line\n|\
         written # $\n|\
         yes yes\n|\
@@ -188,14 +191,21 @@ pub fn refused(refusal: Refusal) -> Shown
     ensures { λ r. ⌜ r ≡ refusedAs refusal ⌝ }
 {
     of_five(
-        REFUSED,
+        refused_form(refusal.number),
         0,
         refusal.number as u64,
         refusal.place as u64,
-        0,
+        refusal.missing as u64,
         0,
         0,
     )
+}
+
+// A Cut alone says what is missing.
+fn refused_form(number: u8) -> usize
+    ensures { λ r. ⌜ r ≡ refusedForm number ⌝ }
+{
+    if number == wire::CUT { CUT } else { REFUSED }
 }
 
 // Puts one of a text's forms, each of which ends at a bar.
