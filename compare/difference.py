@@ -3,7 +3,8 @@
 
 Left out are the parts that the Rust does not have (tail, sec, usec, time), and Route Monitoring's stop. All else is equal or is printed,
 with the line of LIST where that is given. Strings are compared as bytes, whatever the bytes are. A refusal of ours goes with a refusal of
-the Rust under a name that the number stands for; a name does not tell the number.
+the Rust under a name that the number stands for; a name does not tell the number. What is missing in a Cut is as many bytes as the read of
+the Rust lacked, or, where it reads a field in two parts and lacked bytes of the first, the second part more; these are counted apart.
 
 Not compared: lines with a BGP message that the oracle cannot accept (`outside`), verbs that it does not have (`none`), answers of 1 to lines of
 more bytes than a reader takes, and answers of 7 where the Rust's table is longer than ours, or the Rust refuses what comes later. The one difference that is intended (warning 8 goes by
@@ -30,15 +31,21 @@ NAMES = {
     9: {"UnsupportedOpenBmpMessage"},
 }
 TOO_LONG = 1
+CUT = 2
 TOO_MANY = 7
 LIMIT = 1_048_576
 NAME_LENGTH_BIT = 8
 MOST = {"tlvs": 32, "counters": 64}
-KINDS = ("equal", "refused by both", "warning 8 by bytes", "outside", "no such verb", "above the limits", "different")
+# How many bytes the Rust reads last of a field that it reads in two parts: an IPv4 address and a 16-bit AS behind what it skips, and what it skips
+# behind a router's IPv4 address.
+LAST_PART = {"perpeer": {4, 2}, "peerup": {4}, "openbmp": {12}}
+KINDS = ("equal", "refused by both", "cut in a part", "warning 8 by bytes", "outside", "no such verb", "above the limits", "different")
 
 OURS_ALONE = re.compile(r" (?:tail|sec|usec|time)=[^ ]*")
 MONITORING_STOP = re.compile(r"^good stop=\d+ (?=warn=\d+ bgp=)")
-REFUSED = re.compile(r"refused (\d+) at \d+")
+# A Cut says what is missing, and no other refusal does; the Rust says it wherever a read of its own lacked bytes.
+REFUSED = re.compile(r"refused (?:(2) at \d+ missing ([1-9]\d*)|(?!2 )(\d+) at \d+)")
+REFUSED_THERE = re.compile(r"refused (\w+)(?: missing ([1-9]\d*))?")
 WARNINGS = re.compile(r" warn=(\d+) ")
 TABLE_NAMES = re.compile(r"[\[,]3:\d+:N:([0-9a-f]*)")
 TABLE = re.compile(r"(tlvs|counters)=\[(.*)\]$")
@@ -75,6 +82,19 @@ def is_too_long(line):
     return sum(int(times or 1) * (len(digits) // 2) for times, _, digits in parts) > LIMIT
 
 
+def kind_of_refusal(number, missing, oracle, line):
+    """One of KINDS for a refusal of ours below the limits."""
+    there = REFUSED_THERE.fullmatch(oracle)
+    if not there or there[1] not in NAMES.get(number, ()):
+        return "different"
+    if number != CUT or missing == there[2]:
+        return "refused by both"
+    if not there[2]:
+        return "different"
+    parts = LAST_PART.get(line.split(" ")[0], ()) if line else {4, 2, 12}
+    return "cut in a part" if int(missing) - int(there[2]) in parts else "different"
+
+
 def kind(ours, oracle, line):
     """One of KINDS for two answers to one line, where that is known."""
     if oracle == "outside":
@@ -82,12 +102,13 @@ def kind(ours, oracle, line):
     if oracle == "none":
         return "different" if ours == "bad line" else "no such verb"
     refused = REFUSED.fullmatch(ours)
-    if refused and int(refused[1]) == TOO_LONG:
+    number = int(refused[1] or refused[3]) if refused else None
+    if number == TOO_LONG:
         return "above the limits" if line and is_too_long(line) else "different"
-    if refused and int(refused[1]) == TOO_MANY:
+    if number == TOO_MANY:
         return "above the limits" if too_many(oracle) else "different"
     if refused:
-        return "refused by both" if oracle.removeprefix("refused ") in NAMES.get(int(refused[1]), ()) else "different"
+        return kind_of_refusal(number, refused[2], oracle, line)
     ours, oracle = plain(ours), plain(oracle)
     if ours == oracle:
         return "equal"
@@ -113,7 +134,7 @@ def compare(ours, oracle, asked=None):
             break
         found = kind(here, there, line)
         counts[found] += 1
-        if found == "refused by both":
+        if found in ("refused by both", "cut in a part"):
             pairs[here.split()[1], there.split()[1]] += 1
         if found == "different":
             print(f"{number}: {line or ''}\n  ours    {here}\n  oracle  {there}")

@@ -99,5 +99,16 @@ fn refusal(error: ParserBmpError) -> String {
     }
     let text = format!("{error:?}");
     let name = text.split(['(', ' ']).next().unwrap_or_default();
-    format!("refused {name}")
+    match lacking(&text) {
+        Some(lacks) => format!("refused {name} missing {lacks}"),
+        None => format!("refused {name}"),
+    }
+}
+
+/// How many bytes a read lacked, where the original's text has both numbers: "remaining: R, required: N".
+fn lacking(text: &str) -> Option<usize> {
+    let (_, numbers) = text.split_once("remaining: ")?;
+    let (remaining, required) = numbers.split_once(", required: ")?;
+    let digits = required.find(|c: char| !c.is_ascii_digit()).unwrap_or(required.len());
+    Some(required[..digits].parse::<usize>().ok()? - remaining.parse::<usize>().ok()?)
 }
