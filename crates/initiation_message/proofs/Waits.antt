@@ -1,5 +1,5 @@
 -- What one who waits for the missing bytes gets. Assumes nothing.
-use mathlib.Core.Path.{_≡_, refl, ap}
+use mathlib.Core.Path.{_≡_, refl}
 use mathlib.Core.List.{List, _++_}
 use Prim.Native.Nat.{ℕ, _-_}
 use native.Mathlib.Omega.{arith}
@@ -11,7 +11,8 @@ use Rattle.wire.specs.Tlv.{sizeOf}
 use Rattle.wire.specs.Walk.{good, refused, Out}
 use Rattle.wire.specs.Waits.{Waits, MissingTells}
 use Rattle.wire.proofs.Refuses.{pick-in}
-use Rattle.wire.proofs.WalkWaits.{StepWaited, whole, step-stop, num-more, tlv-more, StepTells, refusalIn, StepsWait, body-waits, body-tells}
+use Rattle.wire.proofs.Waits.{part-more}
+use Rattle.wire.proofs.WalkWaits.{StepWaited, whole, step-stop, num-more, StepTells, refusalIn, StepsWait, body-waits, body-tells}
 use Rattle.initiation_message.specs.Read.{step, kit, answer, reader}
 use Rattle.initiation_message.specs.declared.InitiationTlv.{InitiationTlv}
 use Rattle.initiation_message.proofs.Laws.{takes}
@@ -27,7 +28,8 @@ steps s t =
     let size-is = num-more 2 2 s t (omega arith) in
     step-stop sizeOf (length t) (ltb (length s - 4) size) (ltb (length (s ++ t) - 4) (numAt 2 (s ++ t) 2))
     (λ l. let there = ltb-false (length s - 4) size l in le-ltb (length (s ++ t) - 4) (numAt 2 (s ++ t) 2) (omega arith))
-    (λ l. rw (tlv-more s t (omega arith) (ltb-false (length s - 4) size l)) whole))
+    (λ l. let there = ltb-false (length s - 4) size l in
+    rw (num-more 2 0 s t (omega arith), size-is, part-more size 4 s t (omega arith)) whole))
 
 told : (s : List ℕ) → StepTells (step s)
 unfolding step

@@ -26,7 +26,7 @@ use Rattle.per_peer_type.specs.declared.BmpPeerType.{BmpPeerType}
 use Rattle.peer_up_notification.specs.Grammar.{widths}
 use Rattle.peer_up_notification.specs.Shown.{sentAt}
 use Rattle.peer_up_notification.specs.Read.{openAt, frontOf, step, kit, withTlvs, withReceived, withSent, readPeerUp, reader}
-use Rattle.peer_up_notification.specs.Cuts.{endAt, OpenBegun}
+use Rattle.peer_up_notification.specs.Cuts.{OpenBegun}
 use Rattle.peer_up_notification.specs.declared.Open.{Open}
 use Rattle.peer_up_notification.specs.declared.Open.the-variants.{Broken, Found}
 use Rattle.peer_up_notification.specs.declared.PeerUpAnswer.{PeerUpAnswer}

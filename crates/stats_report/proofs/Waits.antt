@@ -1,9 +1,9 @@
 -- What one who waits for the missing bytes gets. Assumes nothing.
-use mathlib.Core.Path.{_≡_, refl, ap}
+use mathlib.Core.Path.{_≡_, refl}
 use mathlib.Core.List.{List, _++_}
 use Prim.Native.Nat.{ℕ, _+_, _-_}
 use native.Mathlib.Omega.{arith}
-use borrow.Author.Tests.{ltb-true, ltb-false, le-ltb}
+use borrow.Author.Tests.{ltb-true, ltb-false}
 use lib.Dec.{ltb}
 use lib.ListN.{length, length-append}
 use Rattle.wire.specs.Number as Number
@@ -17,7 +17,7 @@ use Rattle.wire.proofs.Refuses.{pick-in}
 use Rattle.wire.proofs.Waits.{Judge, by-number, part-more, cut-tells, said, given, need, ask, waits-by, tells-by}
 use Rattle.wire.proofs.WalkWaits.{Past, Lacks, lacks, StepWaited, whole, step-need, num-more, StepTells, refusalIn, StepsWait, walk-on}
 use Rattle.stats_report.specs.Grammar.{sizeOf}
-use Rattle.stats_report.specs.Read.{asStat, step, kit, answer, readStats, reader}
+use Rattle.stats_report.specs.Read.{step, kit, answer, readStats, reader}
 use Rattle.stats_report.specs.declared.StatCounter.{StatCounter}
 use Rattle.stats_report.specs.declared.StatsAnswer.{StatsAnswer}
 use Rattle.stats_report.proofs.Laws.{takes}

@@ -1,9 +1,9 @@
 -- What one who waits for the missing bytes gets, by how a reader judges its input: by needs, tests and walks, one after the other.
 -- Assumes nothing.
-use mathlib.Core.Path.{_≡_, refl, sym, ap, _∙_, subst}
+use mathlib.Core.Path.{_≡_, refl, sym, ap, _∙_}
 use mathlib.Core.Bool.{Bool, true, false}
-use mathlib.Core.List.{List, [], _∷_, _++_}
-use Prim.Native.Nat.{ℕ, zero, suc, _+_, _-_, _≤_, _<_}
+use mathlib.Core.List.{List, _++_}
+use Prim.Native.Nat.{ℕ, _+_, _-_, _≤_, _<_}
 use native.Mathlib.Omega.{arith}
 use borrow.Author.Tests.{leb-true, leb-false, ltb-true, ltb-false, eqb-false, le-leb, lt-leb, le-ltb}
 use lib.Dec.{leb, ltb, eqb}
@@ -11,7 +11,7 @@ use lib.ListN.{length, take, drop, length-append, length-drop}
 use lib.Seq.{take-append-le, drop-append-le}
 use Rattle.wire.specs.Number as Number
 use Rattle.wire.specs.Bytes.{pick, value, has, numAt, numberAt}
-use Rattle.wire.specs.Refusal.{refusal, noRefusal, lacking, cutAt}
+use Rattle.wire.specs.Refusal.{refusal, lacking, cutAt}
 use Rattle.wire.specs.Exactly.{Reader}
 use Rattle.wire.specs.Waits.{Waited, WaitsBut, Tells, MissingTells}
 use Rattle.wire.specs.declared.Refusal.{Refusal}

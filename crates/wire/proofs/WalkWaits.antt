@@ -6,18 +6,17 @@ use Prim.Native.Nat.{ℕ, zero, suc, _+_, _-_, _≤_, _<_}
 use native.Mathlib.Omega.{arith}
 use borrow.Author.Tests.{leb-true, leb-false, ltb-true, ltb-false, eqb-false}
 use lib.Dec.{leb, ltb, eqb}
-use lib.ListN.{length, take, drop, set, replicate, length-drop, length-append}
+use lib.ListN.{length, drop, set, replicate, length-drop, length-append}
 use lib.Seq.{drop-append-le}
 use Rattle.wire.specs.Number as Number
 use Rattle.wire.specs.Bytes.{pick, numAt}
 use Rattle.wire.specs.Refusal.{refusal, noRefusal, lacking, cutAt}
-use Rattle.wire.specs.TlvAt.{tlvOf}
 use Rattle.wire.specs.Walk.{Step, stop, bad, item, End, tail, fault, Kit, Out, good, refused, from, fill, resume, readFrom}
 use Rattle.wire.specs.Exactly.{Reader}
 use Rattle.wire.specs.Waits.{Waited, Waits, Never, Tells, MissingTells}
 use Rattle.wire.specs.declared.Refusal.{Refusal}
 use Rattle.wire.proofs.Walk.{Takes, resume-done, resume-stop, resume-bad, resume-full, resume-room}
-use Rattle.wire.proofs.Waits.{Judge, other-waited, other-tells, by-number, part-more, waits-by, tells-by, said}
+use Rattle.wire.proofs.Waits.{Judge, other-waited, other-tells, by-number, waits-by, tells-by, said}
 
 -- a test says whether fewer than w bytes are left at a place of n bytes
 abbrev pub Lacks : Bool → ℕ → ℕ → ℕ → Type 0
@@ -75,16 +74,9 @@ module _ {A : Type 0} (size : A → ℕ) where
     step-need n m at w long inside false true hb hc behind now = let l = hb .1 refl in let f = hc .0 refl in absurd (omega arith)
     step-need n m at w long inside false false hb hc behind now = let l = hb .1 refl in behind (omega arith)
 
--- a TLV that is there stays the same
+-- a number that is there stays the same
 pub num-more : (w at : ℕ) (s t : List ℕ) → at + w ≤ length s → numAt w (s ++ t) at ≡ numAt w s at
 num-more w at s t h = by-number w at h (λ n. n) s t (omega arith)
-
-pub tlv-more : (s t : List ℕ) → 4 ≤ length s → numAt 2 s 2 ≤ length s - 4 → tlvOf (s ++ t) ≡ tlvOf s
-tlv-more s t long there =
-    let kind-is = num-more 2 0 s t (omega arith) in
-    let size-is = num-more 2 2 s t (omega arith) in
-    let value-is = ap (λ (n : ℕ). take n (drop 4 (s ++ t))) size-is ∙ part-more (numAt 2 s 2) 4 s t (omega arith) in
-    λ i. record { kind = kind-is i; size = size-is i; value = value-is i }
 
 -- a fault says that bytes are missing exactly where it is a Cut
 abbrev pub StepTells : {A : Type 0} → Step A → Type 0

@@ -5,7 +5,7 @@ use mathlib.Core.List.{List, _++_}
 use lib.ListN.{length}
 use Rattle.wire.specs.Number as Number
 use Rattle.wire.specs.Refusal.{lacking}
-use Rattle.wire.specs.Exactly.{Reader, numberOf}
+use Rattle.wire.specs.Exactly.{Reader}
 use Rattle.wire.specs.declared.Refusal.{Refusal}
 
 -- Bytes are refused with r, and with n more behind them with q. Where r is a Cut with more than n bytes missing, q is the Cut at the same place

@@ -1,7 +1,7 @@
 use native.Mathlib.Omega.{arith}
 use borrow.Author.Needs.{needs}
 use mathlib.Core.Path.{_≡_}
-use Prim.Native.Nat.{ℕ, _-_}
+use Prim.Native.Nat.{_-_}
 use Rattle.wire.specs.Refusal.{lacking}
 use Rattle.wire.proofs.Needs.{is-met, is-cut}
 use Rattle.wire.proofs.need_at.Statement.{statement}
