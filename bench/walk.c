@@ -15,7 +15,7 @@ enum { GOOD, TOO_LONG, CUT, BAD_VERSION, UNKNOWN_KIND, BAD_TLV_TYPE, BGP_LENGTH,
 enum { MONITORING, STATISTICS, PEER_DOWN, PEER_UP, INITIATION, TERMINATION, MIRRORING };
 enum { LOC_RIB = 3, IPV6 = 0x80, SHORT_AS = 0x20 };
 
-typedef struct { uint8_t number; size_t place; } Refusal;
+typedef struct { uint8_t number; size_t place, missing; } Refusal;
 typedef struct { size_t place, length; } View;
 typedef struct { uint8_t octets[16]; int v6; } Ip;
 
@@ -27,7 +27,7 @@ static void put32(uint8_t *p, uint32_t x) { put16(p, x >> 16); put16(p + 2, x); 
 static void put64(uint8_t *p, uint64_t x) { put32(p, x >> 32); put32(p + 4, x); }
 
 static uint64_t mix(uint64_t h, uint64_t x) { return (h << 7 | h >> 57) ^ x; }
-static uint64_t of_refusal(Refusal r) { return mix(r.number, r.place) | 1ul << 63; }
+static uint64_t of_refusal(Refusal r) { return mix(mix(r.number, r.place), r.missing) | 1ul << 63; }
 static uint64_t with_view(uint64_t h, View v) { return mix(mix(h, v.place), v.length); }
 static uint64_t with_time(uint64_t h, double time) {
     uint64_t bits;
@@ -38,14 +38,15 @@ static uint64_t with_ip(uint64_t h, const Ip *ip) {
     return mix(mix(mix(mix(h, ip->v6 ? 6 : 4), ip->octets[0]), ip->octets[12]), ip->octets[15]);
 }
 
-static Refusal refused(uint8_t number, size_t place) { return (Refusal){number, place}; }
-static const Refusal good = {GOOD, 0};
+static Refusal refused(uint8_t number, size_t place) { return (Refusal){number, place, 0}; }
+static Refusal cut(size_t place, size_t missing) { return (Refusal){CUT, place, missing}; }
+static const Refusal good = {GOOD, 0, 0};
 
-/* The place of the field in which a run of fields ends too early. */
+/* The field in which a run of fields ends too early, and what it lacks. */
 static Refusal cut_in(const size_t *widths, size_t n, size_t length) {
-    size_t place = 0;
-    for (size_t i = 0; i < n && length - place >= widths[i]; i++) place += widths[i];
-    return refused(CUT, place);
+    size_t place = 0, i = 0;
+    for (; i < n - 1 && length - place >= widths[i]; i++) place += widths[i];
+    return cut(place, place + widths[i] - length);
 }
 
 static double time_of(uint32_t seconds, uint32_t microseconds) { return (double)seconds + (double)microseconds / 1000000.0; }
@@ -56,10 +57,10 @@ typedef struct { uint8_t version, kind; uint32_t length; size_t stop; } Common;
 
 static Refusal read_common(const uint8_t *s, size_t n, Common *a) {
     if (n > LIMIT) return refused(TOO_LONG, 0);
-    if (n < 1) return refused(CUT, 0);
+    if (n < 1) return cut(0, 1);
     if (s[0] != 3) return refused(BAD_VERSION, 0);
-    if (n < 5) return refused(CUT, 1);
-    if (n < 6) return refused(CUT, 5);
+    if (n < 5) return cut(1, 5 - n);
+    if (n < 6) return cut(5, 1);
     if (s[5] > MIRRORING) return refused(UNKNOWN_KIND, 5);
     *a = (Common){3, s[5], be32(s + 1), 6};
     return good;
@@ -70,7 +71,7 @@ static Refusal split(const uint8_t *s, size_t n, Common *a) {
     if (r.number) return r;
     if (a->length < 6) return refused(BAD_MESSAGE_LENGTH, 1);
     if (a->length > LIMIT) return refused(TOO_LONG, 1);
-    if (n < a->length) return refused(CUT, 6);
+    if (n < a->length) return cut(6, a->length - n);
     return good;
 }
 
@@ -162,15 +163,15 @@ typedef struct { Counter counters[COUNTERS]; size_t count; uint32_t stats_count;
 
 static Refusal read_stats(const uint8_t *s, size_t n, Stats *a) {
     if (n > LIMIT) return refused(TOO_LONG, 0);
-    if (n < 4) return refused(CUT, 0);
+    if (n < 4) return cut(0, 4 - n);
     uint32_t wanted = be32(s);
     size_t at = 4, count = 0;
     for (; count < wanted; count++) {
         size_t left = n - at;
-        if (left < 2) return refused(CUT, at);
-        if (left < 4) return refused(CUT, at + 2);
+        if (left < 2) return cut(at, 2 - left);
+        if (left < 4) return cut(at + 2, 4 - left);
         uint16_t kind = be16(s + at), length = be16(s + at + 2);
-        if (left - 4 < length) return refused(CUT, at + 4);
+        if (left - 4 < length) return cut(at + 4, length - (left - 4));
         if (count == COUNTERS) return refused(TOO_MANY, at);
         const uint8_t *v = s + at + 4;
         Counter *c = &a->counters[count];
@@ -219,7 +220,7 @@ static Refusal read_termination(const uint8_t *s, size_t n, Tlvs *a) {
         if (n - stop < length) break;
         uint32_t number = at + 4;
         if (kind == 1) {
-            if (n - stop < 2) return refused(CUT, at + 4);
+            if (n - stop < 2) return cut(at + 4, 2 - (n - stop));
             number = be16(s + at + 4);
             size = 2;
             if (number > 4) return refused(UNKNOWN_KIND, at + 4);
@@ -241,9 +242,9 @@ static Refusal read_mirroring(const uint8_t *s, size_t n, Tlvs *a) {
         if (kind > 1) return refused(BAD_TLV_TYPE, at);
         if (kind == 0) {
             if (length < 19) return refused(BGP_LENGTH, at + 2);
-            if (n - at - 4 < length) return refused(CUT, at + 4);
+            if (n - at - 4 < length) return cut(at + 4, length - (n - at - 4));
         } else {
-            if (n - at - 4 < 2) return refused(CUT, at + 4);
+            if (n - at - 4 < 2) return cut(at + 4, 2 - (n - at - 4));
             number = be16(s + at + 4);
             size = 2;
             if (number > 1) return refused(UNKNOWN_KIND, at + 4);
@@ -261,7 +262,7 @@ typedef struct { View message; size_t stop; uint32_t warnings; } Monitoring;
 static Refusal read_monitoring(const uint8_t *s, size_t n, int short_as, uint8_t type, Monitoring *a) {
     (void)s;
     if (n > LIMIT) return refused(TOO_LONG, 0);
-    if (n < 19) return refused(CUT, 0);
+    if (n < 19) return cut(0, 19 - n);
     *a = (Monitoring){{0, n}, n, type == LOC_RIB && short_as ? 4 : 0};
     return good;
 }
@@ -269,10 +270,10 @@ static Refusal read_monitoring(const uint8_t *s, size_t n, int short_as, uint8_t
 typedef struct { Ip local; uint16_t local_port, remote_port; View sent, received; Tlvs list; uint32_t warnings; } PeerUp;
 
 static Refusal open_at(const uint8_t *s, size_t n, size_t at, View *v) {
-    if (n - at < 19) return refused(CUT, at);
+    if (n - at < 19) return cut(at, 19 - (n - at));
     uint16_t length = be16(s + at + 16);
     if (length < 19) return refused(BGP_LENGTH, at + 16);
-    if (n - at < length) return refused(CUT, at);
+    if (n - at < length) return cut(at, length - (n - at));
     *v = (View){at, length};
     return good;
 }
@@ -283,7 +284,7 @@ static Refusal read_up_tlvs(const uint8_t *s, size_t n, size_t at, uint8_t type,
     size_t count = 0;
     for (; n - at >= 4; count++) {
         uint16_t kind = be16(s + at), length = be16(s + at + 2);
-        if (n - at - 4 < length) return refused(CUT, at + 4);
+        if (n - at - 4 < length) return cut(at + 4, length - (n - at - 4));
         if (count == TLVS) return refused(TOO_MANY, at);
         a->list.tlvs[count] = (Tlv){kind, length, at + 4};
         named |= kind == 3;
@@ -317,7 +318,7 @@ static int has_data(uint8_t reason, size_t rest) { return reason == 0 ? rest > 0
 
 static Refusal read_peer_down(const uint8_t *s, size_t n, PeerDown *a) {
     if (n > LIMIT) return refused(TOO_LONG, 0);
-    if (n < 1) return refused(CUT, 0);
+    if (n < 1) return cut(0, 1);
     if (s[0] > 6) return refused(UNKNOWN_KIND, 0);
     int present = has_data(s[0], n - 1);
     *a = (PeerDown){s[0], present, {1, n - 1}, present ? n : 1};

@@ -3,6 +3,7 @@ use Prim.Native.Nat.{ℕ}
 use mathlib.Core.List.{List, [], _∷_}
 use lib.ListN.{take}
 use Rattle.wire.specs.View.{viewed}
+use Rattle.wire.specs.declared.Refusal.{Refusal}
 use Rattle.common_header.specs.Shown as Common
 use Rattle.common_header.specs.Read.{readCommonHeader}
 use Rattle.common_header.specs.declared.CommonHeaderAnswer.{CommonHeaderAnswer}
@@ -33,10 +34,9 @@ use Rattle.stats_report.specs.Read.{readStats}
 use Rattle.stats_report.specs.declared.StatCounter.{StatCounter}
 use Rattle.stats_report.specs.declared.StatsAnswer.{StatsAnswer}
 
--- number, place, stop, tail's start and fields; a value that views show is the list of its bytes
+-- refusal, stop, tail's start and fields; a value that views show is the list of its bytes
 pub record Listed : Type 0 where
-  pub number : ℕ
-  pub place : ℕ
+  pub refusal : Refusal
   pub stop : ℕ
   pub tail : ℕ
   pub fields : List (List ℕ)
@@ -56,8 +56,7 @@ pub data Reader : Type 0 where
 abbrev pub listedCommon : CommonHeaderAnswer → Listed
 listedCommon a =
     record {
-      number = Common.refusalOf a .number;
-      place = Common.refusalOf a .place;
+      refusal = Common.refusalOf a;
       stop = Common.stopOf a;
       tail = Common.stopOf a;
       fields = number (Common.headerOf a .version) ∷ number (Common.headerOf a .«msg_len») ∷ number (Common.kindOf (Common.headerOf a .«msg_type»)) ∷ [];
@@ -78,8 +77,7 @@ listedCounters s (t ∷ l) =
 abbrev pub listedStatistics : List ℕ → StatsAnswer → Listed
 listedStatistics s a =
     record {
-      number = a .refusal .number;
-      place = a .refusal .place;
+      refusal = a .refusal;
       stop = a .stop;
       tail = a .stop;
       fields = number (a .report .«stats_count») ∷ listedCounters s (take (a .report .count) (a .report .counters));
@@ -93,8 +91,7 @@ listedTlvs s (t ∷ l) = number (t .kind) ∷ number (t .«info_len») ∷ viewe
 abbrev pub listedInitiation : List ℕ → InitiationAnswer → Listed
 listedInitiation s a =
     record {
-      number = a .refusal .number;
-      place = a .refusal .place;
+      refusal = a .refusal;
       stop = a .stop;
       tail = a .tail;
       fields = listedTlvs s (take (a .message .count) (a .message .tlvs));
@@ -112,8 +109,7 @@ listedEndings s (t ∷ l) = listedEnding s (Termination.valueOf t) (t .«info_le
 abbrev pub listedTermination : List ℕ → TerminationAnswer → Listed
 listedTermination s a =
     record {
-      number = a .refusal .number;
-      place = a .refusal .place;
+      refusal = a .refusal;
       stop = a .stop;
       tail = a .tail;
       fields = listedEndings s (take (a .message .count) (a .message .tlvs));
@@ -127,8 +123,7 @@ listedData (present b) = number 1 ∷ b ∷ []
 abbrev pub listedPeerDown : List ℕ → PeerDownAnswer → Listed
 listedPeerDown s a =
     record {
-      number = PeerDown.refusalOf a .number;
-      place = PeerDown.refusalOf a .place;
+      refusal = PeerDown.refusalOf a;
       stop = PeerDown.stopOf a;
       tail = PeerDown.stopOf a;
       fields = number (PeerDown.kindOf (PeerDown.notificationOf a .reason)) ∷ listedData (dataOf s (PeerDown.notificationOf a .«data»));
@@ -146,8 +141,7 @@ listedMirrored s (t ∷ l) = listedValue s (Mirroring.valueOf t) (t .«info_len�
 abbrev pub listedMirroring : List ℕ → RouteMirroringAnswer → Listed
 listedMirroring s a =
     record {
-      number = a .refusal .number;
-      place = a .refusal .place;
+      refusal = a .refusal;
       stop = a .stop;
       tail = a .stop;
       fields = listedMirrored s (take (a .message .count) (a .message .tlvs));

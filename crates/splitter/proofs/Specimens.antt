@@ -4,23 +4,23 @@ use mathlib.Core.List.{List, [], _∷_, map}
 use mathlib.Core.Path.{_≡_, refl}
 use Rattle.wire.specs.Bytes.{value}
 use Rattle.wire.specs.Number as Number
+use Rattle.wire.specs.Refusal.{refusal, noRefusal, lacking}
+use Rattle.wire.specs.declared.Refusal.{Refusal}
 use Rattle.common_header.specs.Shown.{typeOf, kindOf}
 use Rattle.common_header.specs.Read.{readFields}
 use Rattle.splitter.specs.Shown.{refusalOf, stopOf, commonHeaderOf}
 use Rattle.splitter.specs.Read.{splitOf}
 
--- number, place, stop and type
+-- refusal, stop and type
 pub record Told : Type 0 where
-  pub number : ℕ
-  pub place : ℕ
+  pub refusal : Refusal
   pub stop : ℕ
   pub kind : ℕ
 
 abbrev told : List ℕ → Told
 told s =
     record {
-      number = refusalOf (splitOf s) .number;
-      place = refusalOf (splitOf s) .place;
+      refusal = refusalOf (splitOf s);
       stop = stopOf (splitOf s);
       kind = kindOf (commonHeaderOf (splitOf s) .«msg_type»);
     }
@@ -38,12 +38,12 @@ streams =
 
 abbrev answers : List Told
 answers =
-    record { number = Number.Cut; place = 0; stop = 0; kind = 0 }
-    ∷ record { number = Number.Good; place = 0; stop = 11; kind = 4 }
-    ∷ record { number = Number.UnknownKind; place = 5; stop = 0; kind = 0 }
-    ∷ record { number = Number.BadMessageLength; place = 1; stop = 0; kind = 0 }
-    ∷ record { number = Number.Cut; place = 6; stop = 0; kind = 0 }
-    ∷ record { number = Number.TooLong; place = 1; stop = 0; kind = 0 }
+    record { refusal = lacking 0 1; stop = 0; kind = 0 }
+    ∷ record { refusal = noRefusal; stop = 11; kind = 4 }
+    ∷ record { refusal = refusal Number.UnknownKind 5; stop = 0; kind = 0 }
+    ∷ record { refusal = refusal Number.BadMessageLength 1; stop = 0; kind = 0 }
+    ∷ record { refusal = lacking 6 3; stop = 0; kind = 0 }
+    ∷ record { refusal = refusal Number.TooLong 1; stop = 0; kind = 0 }
     ∷ []
 
 pub streams-answered : map told streams ≡ answers

@@ -1,5 +1,5 @@
 // The ten readers behind one call, and the splitter: what each answers as plain numbers, with the form that they are printed by. Those of a
-// refusal are its number and place, those of a good answer the stop, the tail's start and the fields.
+// refusal are its number, its place and what is missing, those of a good answer the stop, the tail's start and the fields.
 use common_header::BmpCommonHeader;
 use common_header::CommonHeaderAnswer;
 use models::Afi;
