@@ -110,10 +110,11 @@ pub fn need_at(there: usize, at: usize, count: usize) -> Need
 {
     let left = rest(there, at);
     if left < count {
+        let missing = count - left;
         return Need::Cut(Refusal {
             number: CUT,
             place: at,
-            missing: count - left,
+            missing: missing,
         });
     }
     Need::Met

@@ -10,8 +10,8 @@ use Rattle.wire.proofs.need_at.Tie as tie
 rest-requires : tie.Need-rest-requires
 rest-requires c κs = search needs
 
-sub-t6 : tie.Need-sub-t6
-sub-t6 c = search needs
+sub-missing : tie.Need-sub-missing
+sub-missing c = search needs
 
 returns : tie.Need-returns
 returns c =
@@ -23,4 +23,4 @@ returns-2 : tie.Need-returns-2
 returns-2 c = let a = c .before .before .args in is-met (a .there) (a .at) (a .count) (omega arith)
 
 pub need-at-spec : {M : Type 1} → statement M
-need-at-spec = tie.close (tie.spec rest-requires sub-t6 returns returns-2)
+need-at-spec = tie.close (tie.spec rest-requires sub-missing returns returns-2)
