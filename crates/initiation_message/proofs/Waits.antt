@@ -1,5 +1,5 @@
 -- What one who waits for the missing bytes gets. Assumes nothing.
-use mathlib.Core.Path.{_≡_, refl}
+use mathlib.Core.Path.{refl}
 use mathlib.Core.List.{List, _++_}
 use Prim.Native.Nat.{ℕ, _-_}
 use native.Mathlib.Omega.{arith}
@@ -8,13 +8,11 @@ use lib.Dec.{leb, ltb}
 use lib.ListN.{length, length-append}
 use Rattle.wire.specs.Bytes.{numAt}
 use Rattle.wire.specs.Tlv.{sizeOf}
-use Rattle.wire.specs.Walk.{good, refused, Out}
 use Rattle.wire.specs.Waits.{Waits, MissingTells}
 use Rattle.wire.proofs.Refuses.{pick-in}
 use Rattle.wire.proofs.Waits.{part-more}
-use Rattle.wire.proofs.WalkWaits.{StepWaited, whole, step-stop, num-more, StepTells, refusalIn, StepsWait, body-waits, body-tells}
+use Rattle.wire.proofs.WalkWaits.{StepWaited, whole, step-stop, num-more, StepTells, StepsWait, body-waits, body-tells}
 use Rattle.initiation_message.specs.Read.{step, kit, answer, reader}
-use Rattle.initiation_message.specs.declared.InitiationTlv.{InitiationTlv}
 use Rattle.initiation_message.proofs.Laws.{takes}
 
 steps : (s t : List ℕ) → StepWaited sizeOf (length t) (step s) (step (s ++ t))
@@ -38,12 +36,8 @@ told s = pick-in StepTells (leb (length s) 4) tt (pick-in StepTells (ltb (length
 wait : StepsWait kit
 wait = record { takes = takes; steps = steps; tells = told }
 
-says : (o : Out InitiationTlv) → answer o .refusal ≡ refusalIn o
-says (good n at table z) = refl
-says (refused r) = refl
-
 pub waits : Waits reader
-waits = body-waits reader kit wait _ answer (λ s. refl) refl says
+waits = body-waits reader kit wait _ answer (λ s. refl) refl (λ n at table z. refl) (λ r. refl)
 
 pub missing-tells : MissingTells reader
-missing-tells = body-tells reader kit wait _ answer (λ s. refl) refl says
+missing-tells = body-tells reader kit wait _ answer (λ s. refl) refl (λ n at table z. refl) (λ r. refl)

@@ -12,13 +12,12 @@ use Rattle.wire.specs.Bytes.{pick, numAt}
 use Rattle.wire.specs.Refusal.{refusal}
 use Rattle.wire.specs.Tlv.{sizeOf}
 use Rattle.wire.specs.View.{view}
-use Rattle.wire.specs.Walk.{good, refused, Out, readFrom}
+use Rattle.wire.specs.Walk.{readFrom}
 use Rattle.wire.specs.Waits.{WaitsBut, MissingTells}
 use Rattle.wire.specs.declared.Refusal.{Refusal}
-use Rattle.wire.specs.declared.View.{View}
 use Rattle.wire.proofs.Cuts.{pick-by}
 use Rattle.wire.proofs.Waits.{Judge, by-number, part-more, cut-tells, said, said-few, ends, test, given, need, ask, look, waits-by, tells-by}
-use Rattle.wire.proofs.WalkWaits.{lacks, StepWaited, whole, step-stop, step-need, num-more, StepTells, refusalIn, StepsWait, walk-on, more-bytes}
+use Rattle.wire.proofs.WalkWaits.{lacks, StepWaited, whole, step-stop, step-need, num-more, StepTells, walk-said, StepsWait, walk-on, more-bytes}
 use Rattle.cursor.specs.Read.{cursor}
 use Rattle.layout.proofs.Waits.{fields, fields-judge}
 use Rattle.models.specs.declared.Afi.{Afi}
@@ -30,7 +29,6 @@ use Rattle.peer_up_notification.specs.Cuts.{OpenBegun}
 use Rattle.peer_up_notification.specs.declared.Open.{Open}
 use Rattle.peer_up_notification.specs.declared.Open.the-variants.{Broken, Found}
 use Rattle.peer_up_notification.specs.declared.PeerUpAnswer.{PeerUpAnswer}
-use Rattle.peer_up_notification.specs.declared.PeerUpNotificationTlv.{PeerUpNotificationTlv}
 use Rattle.peer_up_notification.proofs.Laws.{takes}
 
 -- ---- the TLVs
@@ -99,10 +97,6 @@ judged : Judge OpenBegun 0 0
 judged = fields widths 0 sentAt refl sent
 
 module _ (afi : Afi) (peer : BmpPeerType) where
-  says : (s : List ℕ) (v w : View) (o : Out PeerUpNotificationTlv) → withTlvs peer (frontOf afi s v w) o .refusal ≡ refusalIn o
-  says s v w (good n at table z) = refl
-  says s v w (refused r) = refl
-
   reads : (s : List ℕ) → readPeerUp afi peer s .refusal ≡ pick (ltb Number.limit (length s)) (refusal Number.TooLong 0) (judged .judge s)
   unfolding judged sent received tlvs walk-on
   reads s =
@@ -112,7 +106,7 @@ module _ (afi : Afi) (peer : BmpPeerType) where
       (said refusalOf (ltb (length s) sentAt) refl
       (open-said sentAt sent-begun received (λ o. withSent afi peer s o .refusal) (λ r. refl) s
       (open-said (sentAt + size) (received-begun size) (tlvs size) (λ o. withReceived afi peer s (view sentAt size) o .refusal) (λ r. refl) s
-      (says s _ _ (readFrom kit (length s) _ s))))
+      (walk-said refusalOf (withTlvs peer (frontOf afi s _ _)) (λ n at table z. refl) (λ r. refl) (readFrom kit (length s) _ s))))
       ∙ sym (fields-judge 0 widths 0 sentAt refl sent s (omega arith)))
 
   pub waits : WaitsBut OpenBegun (reader afi peer)

@@ -1,5 +1,5 @@
 -- What one who waits for the missing bytes gets. Assumes nothing.
-use mathlib.Core.Path.{_≡_, refl}
+use mathlib.Core.Path.{refl}
 use mathlib.Core.List.{List, _++_}
 use Prim.Native.Nat.{ℕ, _-_}
 use native.Mathlib.Omega.{arith}
@@ -8,15 +8,13 @@ use lib.Dec.{leb, ltb, eqb}
 use lib.ListN.{length, length-append}
 use Rattle.wire.specs.Number as Number
 use Rattle.wire.specs.Bytes.{numAt}
-use Rattle.wire.specs.Walk.{good, refused, Out}
 use Rattle.wire.specs.Waits.{Waits, MissingTells}
 use Rattle.wire.proofs.Cuts.{pick-by}
 use Rattle.wire.proofs.Refuses.{pick-in}
 use Rattle.wire.proofs.Waits.{other-tells, cut-tells, part-more}
-use Rattle.wire.proofs.WalkWaits.{Past, lacks, StepWaited, whole, step-fault, step-test, step-stop, step-need, num-more, StepTells, refusalIn, StepsWait, body-waits, body-tells}
+use Rattle.wire.proofs.WalkWaits.{Past, lacks, StepWaited, whole, step-fault, step-test, step-stop, step-need, num-more, StepTells, StepsWait, body-waits, body-tells}
 use Rattle.route_mirroring.specs.Grammar.{sizeOf}
 use Rattle.route_mirroring.specs.Read.{messageStep, informationStep, step, kit, answer, reader}
-use Rattle.route_mirroring.specs.declared.RouteMirroringTlv.{RouteMirroringTlv}
 use Rattle.route_mirroring.proofs.Laws.{takes}
 
 steps : (s t : List ℕ) → StepWaited sizeOf (length t) (step s) (step (s ++ t))
@@ -57,12 +55,8 @@ told s =
 wait : StepsWait kit
 wait = record { takes = takes; steps = steps; tells = told }
 
-says : (o : Out RouteMirroringTlv) → answer o .refusal ≡ refusalIn o
-says (good n at table z) = refl
-says (refused r) = refl
-
 pub waits : Waits reader
-waits = body-waits reader kit wait _ answer (λ s. refl) refl says
+waits = body-waits reader kit wait _ answer (λ s. refl) refl (λ n at table z. refl) (λ r. refl)
 
 pub missing-tells : MissingTells reader
-missing-tells = body-tells reader kit wait _ answer (λ s. refl) refl says
+missing-tells = body-tells reader kit wait _ answer (λ s. refl) refl (λ n at table z. refl) (λ r. refl)

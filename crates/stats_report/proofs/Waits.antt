@@ -9,16 +9,15 @@ use lib.ListN.{length, length-append}
 use Rattle.wire.specs.Number as Number
 use Rattle.wire.specs.Bytes.{pick, has, numAt}
 use Rattle.wire.specs.Refusal.{refusal}
-use Rattle.wire.specs.Walk.{good, refused, Out, readFrom}
+use Rattle.wire.specs.Walk.{readFrom}
 use Rattle.wire.specs.Waits.{Never, Waits, MissingTells}
 use Rattle.wire.specs.declared.Refusal.{Refusal}
 use Rattle.wire.proofs.Cuts.{pick-by}
 use Rattle.wire.proofs.Refuses.{pick-in}
 use Rattle.wire.proofs.Waits.{Judge, by-number, part-more, cut-tells, said, given, need, ask, waits-by, tells-by}
-use Rattle.wire.proofs.WalkWaits.{Past, Lacks, lacks, StepWaited, whole, step-need, num-more, StepTells, refusalIn, StepsWait, walk-on}
+use Rattle.wire.proofs.WalkWaits.{Past, Lacks, lacks, StepWaited, whole, step-need, num-more, StepTells, walk-said, StepsWait, walk-on}
 use Rattle.stats_report.specs.Grammar.{sizeOf}
 use Rattle.stats_report.specs.Read.{step, kit, answer, readStats, reader}
-use Rattle.stats_report.specs.declared.StatCounter.{StatCounter}
 use Rattle.stats_report.specs.declared.StatsAnswer.{StatsAnswer}
 use Rattle.stats_report.proofs.Laws.{takes}
 
@@ -59,16 +58,12 @@ wait = record { takes = takes; steps = steps; tells = told }
 judged : Judge Never 0 0
 judged = ask 4 (given (λ s. numAt 4 s 0) (by-number 4 0 (omega arith) (λ n. n)) (λ n. walk-on kit wait (λ s. n) (λ s t. omega arith)))
 
-says : (total : ℕ) (o : Out StatCounter) → answer total o .refusal ≡ refusalIn o
-says total (good n at table z) = refl
-says total (refused r) = refl
-
 reads : (s : List ℕ) → readStats s .refusal ≡ pick (ltb Number.limit (length s)) (refusal Number.TooLong 0) (judged .judge s)
 unfolding judged ask need given walk-on
 reads s =
     let refusalOf : StatsAnswer → Refusal = λ a. a .refusal in
     said refusalOf (ltb Number.limit (length s)) refl
-    (said refusalOf (has 4 s 0) (says (numAt 4 s 0) (readFrom kit (numAt 4 s 0) 4 s)) refl)
+    (said refusalOf (has 4 s 0) (walk-said refusalOf (answer (numAt 4 s 0)) (λ n at table z. refl) (λ r. refl) (readFrom kit (numAt 4 s 0) 4 s)) refl)
 
 pub waits : Waits reader
 waits = waits-by reader judged reads

@@ -90,6 +90,13 @@ abbrev pub refusalIn : {T : Type 0} → Out T → Refusal
 refusalIn (good n at table z) = noRefusal
 refusalIn (refused r) = r
 
+-- and of the answer that is made of that
+pub walk-said : {A T : Type 0} (refusalOf : A → Refusal) (answer : Out T → A)
+    → ((n at : ℕ) (table : List T) (z : List ℕ) → refusalOf (answer (good n at table z)) ≡ noRefusal) → ((r : Refusal) → refusalOf (answer (refused r)) ≡ r)
+    → (o : Out T) → refusalOf (answer o) ≡ refusalIn o
+walk-said refusalOf answer when-good when-refused (good n at table z) = when-good n at table z
+walk-said refusalOf answer when-good when-refused (refused r) = when-refused r
+
 pub record StepsWait (K : Kit) : Type 0 where
   pub takes : Takes K
   pub steps : (s t : List ℕ) → StepWaited (K .size) (length t) (K .step s) (K .step (s ++ t))
@@ -213,13 +220,16 @@ more-bytes s t = omega (arith, length-append s t)
 module _ (R : Reader) (K : Kit) (wait : StepsWait K) (too-long : R .Answer) (answer : Out (K .Entry) → R .Answer)
     (reads : (s : List ℕ) → R .read s ≡ pick (ltb Number.limit (length s)) too-long (answer (readFrom K (length s) 0 s)))
     (one : R .refusalOf too-long ≡ refusal Number.TooLong 0)
-    (says : (o : Out (K .Entry)) → R .refusalOf (answer o) ≡ refusalIn o) where
+    (when-good : (n at : ℕ) (table : List (K .Entry)) (z : List ℕ) → R .refusalOf (answer (good n at table z)) ≡ noRefusal)
+    (when-refused : (r : Refusal) → R .refusalOf (answer (refused r)) ≡ r) where
   judged : Judge Never 0 0
   judged = walk-on K wait length more-bytes
 
   said-so : (s : List ℕ) → R .refusalOf (R .read s) ≡ pick (ltb Number.limit (length s)) (refusal Number.TooLong 0) (judged .judge s)
   unfolding judged walk-on
-  said-so s = ap (R .refusalOf) (reads s) ∙ said (R .refusalOf) (ltb Number.limit (length s)) one (says (readFrom K (length s) 0 s))
+  said-so s =
+      ap (R .refusalOf) (reads s)
+      ∙ said (R .refusalOf) (ltb Number.limit (length s)) one (walk-said (R .refusalOf) answer when-good when-refused (readFrom K (length s) 0 s))
 
   pub body-waits : Waits R
   body-waits = waits-by R judged said-so
