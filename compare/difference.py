@@ -36,15 +36,15 @@ TOO_MANY = 7
 LIMIT = 1_048_576
 NAME_LENGTH_BIT = 8
 MOST = {"tlvs": 32, "counters": 64}
-# How many bytes the Rust reads last of a field that it reads in two parts: an IPv4 address and a 16-bit AS behind what it skips, and what it skips
-# behind a router's IPv4 address.
-LAST_PART = {"perpeer": {4, 2}, "peerup": {4}, "openbmp": {12}}
+# Fields that the Rust reads in two parts: an IPv4 address and a 16-bit AS behind what it skips, and what it skips behind a router's IPv4 address. For
+# each verb the first and the last place of such a field, and the bytes of its two parts.
+IN_PARTS = {"perpeer": [(10, 10, 12, 4), (26, 26, 2, 2)], "peerup": [(0, 0, 12, 4)], "openbmp": [(56, 56 + 65_535, 4, 12)]}
 KINDS = ("equal", "refused by both", "cut in a part", "warning 8 by bytes", "outside", "no such verb", "above the limits", "different")
 
 OURS_ALONE = re.compile(r" (?:tail|sec|usec|time)=[^ ]*")
 MONITORING_STOP = re.compile(r"^good stop=\d+ (?=warn=\d+ bgp=)")
 # A Cut says what is missing, and no other refusal does; the Rust says it wherever a read of its own lacked bytes.
-REFUSED = re.compile(r"refused (?:(2) at \d+ missing ([1-9]\d*)|(?!2 )(\d+) at \d+)")
+REFUSED = re.compile(r"refused (?:(2) at (\d+) missing ([1-9]\d*)|(?!2 )(\d+) at \d+)")
 REFUSED_THERE = re.compile(r"refused (\w+)(?: missing ([1-9]\d*))?")
 WARNINGS = re.compile(r" warn=(\d+) ")
 TABLE_NAMES = re.compile(r"[\[,]3:\d+:N:([0-9a-f]*)")
@@ -82,17 +82,22 @@ def is_too_long(line):
     return sum(int(times or 1) * (len(digits) // 2) for times, _, digits in parts) > LIMIT
 
 
-def kind_of_refusal(number, missing, oracle, line):
+def is_cut_in_part(place, missing, lacked, line):
+    """Whether the Rust lacked bytes of the first part of a field, and ours are those and the second part."""
+    fields = IN_PARTS.get(line.split(" ")[0], ()) if line else sum(IN_PARTS.values(), [])
+    return any(low <= place <= high and lacked <= one and missing == lacked + two for low, high, one, two in fields)
+
+
+def kind_of_refusal(refused, number, oracle, line):
     """One of KINDS for a refusal of ours below the limits."""
     there = REFUSED_THERE.fullmatch(oracle)
     if not there or there[1] not in NAMES.get(number, ()):
         return "different"
-    if number != CUT or missing == there[2]:
+    if number != CUT or refused[3] == there[2]:
         return "refused by both"
-    if not there[2]:
-        return "different"
-    parts = LAST_PART.get(line.split(" ")[0], ()) if line else {4, 2, 12}
-    return "cut in a part" if int(missing) - int(there[2]) in parts else "different"
+    if there[2] and is_cut_in_part(int(refused[2]), int(refused[3]), int(there[2]), line):
+        return "cut in a part"
+    return "different"
 
 
 def kind(ours, oracle, line):
@@ -102,13 +107,13 @@ def kind(ours, oracle, line):
     if oracle == "none":
         return "different" if ours == "bad line" else "no such verb"
     refused = REFUSED.fullmatch(ours)
-    number = int(refused[1] or refused[3]) if refused else None
+    number = int(refused[1] or refused[4]) if refused else None
     if number == TOO_LONG:
         return "above the limits" if line and is_too_long(line) else "different"
     if number == TOO_MANY:
         return "above the limits" if too_many(oracle) else "different"
     if refused:
-        return kind_of_refusal(number, refused[2], oracle, line)
+        return kind_of_refusal(refused, number, oracle, line)
     ours, oracle = plain(ours), plain(oracle)
     if ours == oracle:
         return "equal"

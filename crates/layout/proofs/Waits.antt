@@ -19,7 +19,7 @@ pub further : (at w rest end : ℕ) → at + (w + rest) ≡ end → at + w + res
 further at w rest end e = omega arith
 
 -- a reader that needs fields of these widths from a place on, and goes on behind them, at their end
-unfoldable pub fields : {Again : List ℕ → ℕ → Type 0} {known : ℕ} (ws : List ℕ) (at end : ℕ) → at + total ws ≡ end → Judge Again end end → Judge Again at known
+unfoldable pub fields : {Again : List ℕ → ℕ → ℕ → Type 0} {known : ℕ} (ws : List ℕ) (at end : ℕ) → at + total ws ≡ end → Judge Again end end → Judge Again at known
 fields [] at end e x =
     record {
       judge = x .judge;
@@ -40,7 +40,7 @@ module _ (n end : ℕ) (r : Refusal) where
       go true h = refl
       go false h = let few = leb-false w (n - at) h in rw (lt-ltb n end (omega arith))
 
-pub fields-judge : {Again : List ℕ → ℕ → Type 0} (known : ℕ) (ws : List ℕ) (at end : ℕ) (e : at + total ws ≡ end) (x : Judge Again end end) (s : List ℕ)
+pub fields-judge : {Again : List ℕ → ℕ → ℕ → Type 0} (known : ℕ) (ws : List ℕ) (at end : ℕ) (e : at + total ws ≡ end) (x : Judge Again end end) (s : List ℕ)
     → at ≤ length s → fields {known = known} ws at end e x .judge s ≡ pick (ltb (length s) end) (cutIn ws at (length s)) (x .judge s)
 unfolding fields ask need
 fields-judge known [] at end e x s inside = sym (rw (le-ltb (length s) end (omega arith)))

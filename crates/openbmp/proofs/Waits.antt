@@ -22,7 +22,7 @@ use Rattle.openbmp.specs.Read.{cut, afterRowCount, afterGroupLength, aft
 use Rattle.openbmp.specs.declared.OpenBmpAnswer.{OpenBmpAnswer}
 
 -- ---- its stages, the last first: what each judges, and the fields that it needs next
-rowCount : (Again : List ℕ → ℕ → Type 0) (a g : ℕ) → Judge Again (78 + a + g) (78 + a + g)
+rowCount : (Again : List ℕ → ℕ → ℕ → Type 0) (a g : ℕ) → Judge Again (78 + a + g) (78 + a + g)
 rowCount Again a g =
     test (λ s. eqb (numberAt 4 s (74 + a + g)) 1) (by-number-at 4 (74 + a + g) (omega arith) (λ n. eqb n 1)) good
     (ends Number.BadOpenBmp (74 + a + g) refl)
@@ -30,7 +30,7 @@ rowCount Again a g =
 group-end : (a g : ℕ) → 74 + a + total (g ∷ 4 ∷ []) ≡ 78 + a + g
 group-end a g = omega arith
 
-groupLength : (Again : List ℕ → ℕ → Type 0) (a : ℕ) → Judge Again (74 + a) (74 + a)
+groupLength : (Again : List ℕ → ℕ → ℕ → Type 0) (a : ℕ) → Judge Again (74 + a) (74 + a)
 groupLength Again a =
     given (λ s. numberAt 2 s (72 + a)) (by-number-at 2 (72 + a) (omega arith) (λ n. n))
     (λ g. fields (g ∷ 4 ∷ []) (74 + a) (78 + a + g) (group-end a g) (rowCount _ a g))
@@ -76,7 +76,7 @@ refusalOf a = a .refusal
 
 module _ (s : List ℕ) where
   -- the fields of a stage are those from the i-th to the j-th of all
-  stage : {Again : List ℕ → ℕ → Type 0} (a g i j : ℕ) (ws : List ℕ) → widths a g ≡ take i (widths a g) ++ (ws ++ drop j (widths a g)) → (at end : ℕ)
+  stage : {Again : List ℕ → ℕ → ℕ → Type 0} (a g i j : ℕ) (ws : List ℕ) → widths a g ≡ take i (widths a g) ++ (ws ++ drop j (widths a g)) → (at end : ℕ)
       → total (take i (widths a g)) ≡ at
       → (e : at + total ws ≡ end) (x : Judge Again end end) (y : OpenBmpAnswer) → at ≤ length s → (end ≤ length s → refusalOf y ≡ x .judge s)
       → refusalOf (pick (ltb (length s) end) (cut (length s) a g) y) ≡ fields {known = at} ws at end e x .judge s
@@ -87,11 +87,11 @@ module _ (s : List ℕ) where
       (λ h. on (ltb-false (length s) end h))
       ∙ sym (fields-judge at ws at end e x s inside)
 
-  row-count : (Again : List ℕ → ℕ → Type 0) (a g : ℕ) → refusalOf (afterRowCount s a g (numberAt 4 s (74 + a + g))) ≡ rowCount Again a g .judge s
+  row-count : (Again : List ℕ → ℕ → ℕ → Type 0) (a g : ℕ) → refusalOf (afterRowCount s a g (numberAt 4 s (74 + a + g))) ≡ rowCount Again a g .judge s
   unfolding refusalOf afterRowCount rowCount test ends good
   row-count Again a g = said refusalOf (eqb (numberAt 4 s (74 + a + g)) 1) refl refl
 
-  group-length : (Again : List ℕ → ℕ → Type 0) (a : ℕ) → 74 + a ≤ length s
+  group-length : (Again : List ℕ → ℕ → ℕ → Type 0) (a : ℕ) → 74 + a ≤ length s
       → refusalOf (afterGroupLength s a (numberAt 2 s (72 + a))) ≡ groupLength Again a .judge s
   unfolding afterGroupLength groupLength given
   group-length Again a inside =

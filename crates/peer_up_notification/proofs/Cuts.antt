@@ -37,22 +37,23 @@ module _ (afi : Afi) (peer : BmpPeerType) (s : List ℕ) (p : Bytes s) where
   abbrev Cuts : PeerUpAnswer → Type 0
   Cuts a = a .refusal .number ≡ Number.Cut → CutIn s (a .refusal)
 
-  in-tlvs : (sent received : View) (at : ℕ) → at ≡ endAt s (endAt s sentAt) → at ≤ length s
+  in-tlvs : (sent received : View) (at : ℕ) → sentAt + 19 ≤ length s → endAt s sentAt + 19 ≤ length s → at ≡ endAt s (endAt s sentAt) → at ≤ length s
       → Cuts (withTlvs peer (frontOf afi s sent received) (readFrom kit (length s) at s))
-  in-tlvs sent received at here inside e =
-      in-tlv at here inside
+  in-tlvs sent received at one two here inside e =
+      in-tlv at one two here inside
       (walk-cut kit laws widthsIn (λ z. cuts-in (widthsIn z) (length z) (step z) (cuts z)) (λ (a : PeerUpAnswer). a .refusal)
       (withTlvs peer (frontOf afi s sent received)) (λ n at table z. refl) (λ r. refl) (length s) at s p inside e)
 
-  after-sent : (sent : View) (at : ℕ) → at ≡ endAt s sentAt → at ≤ length s → Cuts (withReceived afi peer s sent (openAt s at))
+  after-sent : (sent : View) (at : ℕ) → sentAt + 19 ≤ length s → at ≡ endAt s sentAt → at ≤ length s → Cuts (withReceived afi peer s sent (openAt s at))
   unfolding openAt
-  after-sent sent at here inside =
+  after-sent sent at one here inside =
       let size = numAt 2 s (at + 16) in
       let P : Open → Type 0 = λ o. Cuts (withReceived afi peer s sent o) in
-      pick-by P (ltb (length s - at) 19) (λ h e. in-received at here (inl (one-lacks at 19 (length s) inside (ltb-true (length s - at) 19 h)))) (λ header.
+      pick-by P (ltb (length s - at) 19) (λ h e. in-received at one here (inl (one-lacks at 19 (length s) inside (ltb-true (length s - at) 19 h)))) (λ header.
       pick-by P (ltb size 19) (λ h e. absurd (omega arith)) (λ h. pick-by P (ltb (length s - at) size)
-      (λ h e. in-received at here (inr (omega (arith, ltb-false (length s - at) 19 header), one-lacks at size (length s) inside (ltb-true (length s - at) size h))))
-      (λ h. in-tlvs sent (view at size) (at + size) (ap (endAt s) here) (omega (arith, ltb-false (length s - at) size h)))))
+      (λ h e. in-received at one here (inr (omega (arith, ltb-false (length s - at) 19 header), one-lacks at size (length s) inside (ltb-true (length s - at) size h))))
+      (λ h. in-tlvs sent (view at size) (at + size) one (omega (arith, here, ltb-false (length s - at) 19 header)) (ap (endAt s) here)
+      (omega (arith, ltb-false (length s - at) size h)))))
 
   pub refuses-cut : Cuts (readPeerUp afi peer s)
   unfolding openAt
@@ -64,4 +65,4 @@ module _ (afi : Afi) (peer : BmpPeerType) (s : List ℕ) (p : Bytes s) where
       pick-by P (ltb (length s - sentAt) 19) (λ h e. in-sent (inl (one-lacks sentAt 19 (length s) f (ltb-true (length s - sentAt) 19 h)))) (λ header.
       pick-by P (ltb size 19) (λ h e. absurd (omega arith)) (λ h. pick-by P (ltb (length s - sentAt) size)
       (λ h e. in-sent (inr (omega (arith, ltb-false (length s - sentAt) 19 header), one-lacks sentAt size (length s) f (ltb-true (length s - sentAt) size h))))
-      (λ h. after-sent (view sentAt size) (sentAt + size) refl (omega (arith, ltb-false (length s - sentAt) size h, f)))))))
+      (λ h. after-sent (view sentAt size) (sentAt + size) (omega (arith, ltb-false (length s - sentAt) 19 header)) refl (omega (arith, ltb-false (length s - sentAt) size h, f)))))))

@@ -62,8 +62,8 @@ told-back = ToldProofs.told-back
 pub refuses : (afi : Afi) (peer : BmpPeerType) → Refuses (reader afi peer)
 refuses = Refusals.refuses
 
--- Who waits for as many bytes as a Cut says are missing waits neither too long nor in vain, but that an OPEN whose header was not all there may be Cut
--- once more, by the length that its header says.
+-- Who waits for as many bytes as a Cut says are missing waits neither too long nor in vain, but that an OPEN whose header was not all there and is now
+-- may be Cut once more.
 pub waits : (afi : Afi) (peer : BmpPeerType) → WaitsBut OpenBegun (reader afi peer)
 waits = Waiting.waits
 
@@ -103,7 +103,7 @@ warnings-counted peer r = go (isLocRib (kindOf peer)) (some badTableName (map he
     go true false true = refl
     go true false false = refl
 
--- A Cut is at the first part that is not whole, in the front, in one of the messages, or in a TLV.
+-- A Cut is at the first part that is not whole, in the front, in one of the messages, or in a TLV, with as many missing as it lacks.
 pub refuses-cut : (afi : Afi) (peer : BmpPeerType) (s : List ℕ) → Bytes s → readPeerUp afi peer s .refusal .number ≡ Number.Cut
     → CutIn s (readPeerUp afi peer s .refusal)
 refuses-cut = Cuts.refuses-cut

@@ -57,8 +57,8 @@ wait : StepsWait kit
 wait = record { takes = takes; steps = steps; tells = told }
 
 -- ---- an OPEN at a place, and what stands behind it
-module _ {Again : List ℕ → ℕ → Type 0} (at : ℕ) (again : (s : List ℕ) → at ≤ length s → length s - at < 19 → Again s at)
-    (next : (size : ℕ) → Judge (λ s p. numAt 2 s (at + 16) ≡ size → Again s p) (at + size) (at + size)) where
+module _ {Again : List ℕ → ℕ → ℕ → Type 0} (at : ℕ) (again : (s : List ℕ) (m : ℕ) → at ≤ length s → length s - at < 19 → at + 19 ≤ m → Again s m at)
+    (next : (size : ℕ) → Judge (λ s m p. numAt 2 s (at + 16) ≡ size → Again s m p) (at + size) (at + size)) where
   open-then : Judge Again at at
   open-then =
       look 19 again (given (λ s. numAt 2 s (at + 16)) (by-number 2 (at + 16) (omega arith) (λ n. n)) (λ size.
@@ -73,18 +73,18 @@ module _ {Again : List ℕ → ℕ → Type 0} (at : ℕ) (again : (s : List ℕ
       said-few g (length s - at) 19 (λ h. broken _) (λ h. said g (ltb size 19) (broken _) (said-few g (length s - at) size (λ l. broken _) (λ l. found)))
 
 -- ---- address and ports, both messages, and then the TLVs
-sent-begun : (s : List ℕ) → sentAt ≤ length s → length s - sentAt < 19 → OpenBegun s sentAt
-sent-begun s h few = (omega arith, inl refl)
+sent-begun : (s : List ℕ) (m : ℕ) → sentAt ≤ length s → length s - sentAt < 19 → sentAt + 19 ≤ m → OpenBegun s m sentAt
+sent-begun s m h few now = (omega arith, now, inl refl)
 
 -- the sent one has this size, and the received one stands behind it
 module _ (size : ℕ) where
-  abbrev Behind : List ℕ → ℕ → Type 0
-  Behind s p = numAt 2 s (sentAt + 16) ≡ size → OpenBegun s p
+  abbrev Behind : List ℕ → ℕ → ℕ → Type 0
+  Behind s m p = numAt 2 s (sentAt + 16) ≡ size → OpenBegun s m p
 
-  received-begun : (s : List ℕ) → sentAt + size ≤ length s → length s - (sentAt + size) < 19 → Behind s (sentAt + size)
-  received-begun s h few e = (omega arith, inr (ap (λ (n : ℕ). sentAt + n) (sym e)))
+  received-begun : (s : List ℕ) (m : ℕ) → sentAt + size ≤ length s → length s - (sentAt + size) < 19 → sentAt + size + 19 ≤ m → Behind s m (sentAt + size)
+  received-begun s m h few now e = (omega arith, now, inr (ap (λ (n : ℕ). sentAt + n) (sym e)))
 
-  tlvs : (n : ℕ) → Judge (λ s p. numAt 2 s (sentAt + size + 16) ≡ n → Behind s p) (sentAt + size + n) (sentAt + size + n)
+  tlvs : (n : ℕ) → Judge (λ s m p. numAt 2 s (sentAt + size + 16) ≡ n → Behind s m p) (sentAt + size + n) (sentAt + size + n)
   tlvs n = walk-on kit wait length more-bytes
 
   received : Judge Behind (sentAt + size) (sentAt + size)

@@ -21,12 +21,14 @@ abbrev pub MessageLacks : List ℕ → ℕ → Refusal → Type 0
 MessageLacks s at r =
     FirstLacking (19 ∷ []) at (length s) r ⊎ ((at + 19 ≤ length s) × FirstLacking (numAt 2 s (at + 16) ∷ []) at (length s) r)
 
--- an OPEN starts at a place, and its header, which says how long it is, is not all there: it may be Cut there twice
-abbrev pub OpenBegun : List ℕ → ℕ → Type 0
-OpenBegun s at = (length s < at + 19) × ((at ≡ sentAt) ⊎ (at ≡ endAt s sentAt))
+-- an OPEN starts at a place, and its header, which says how long it is, was not all there and is now, where there are m bytes: so it may be Cut
+-- there once more
+abbrev pub OpenBegun : List ℕ → ℕ → ℕ → Type 0
+OpenBegun s m at = (length s < at + 19) × (at + 19 ≤ m) × ((at ≡ sentAt) ⊎ (at ≡ endAt s sentAt))
 
 pub data CutIn (s : List ℕ) (r : Refusal) : Type 0 where
   in-front : FirstLacking widths 0 (length s) r → CutIn s r
   in-sent : MessageLacks s sentAt r → CutIn s r
-  in-received : (at : ℕ) → at ≡ endAt s sentAt → MessageLacks s at r → CutIn s r
-  in-tlv : (at : ℕ) → at ≡ endAt s (endAt s sentAt) → at ≤ length s → CutAfter putTlv ReadTlv sizeOf widthsIn at s r → CutIn s r
+  in-received : (at : ℕ) → sentAt + 19 ≤ length s → at ≡ endAt s sentAt → MessageLacks s at r → CutIn s r
+  in-tlv : (at : ℕ) → sentAt + 19 ≤ length s → endAt s sentAt + 19 ≤ length s → at ≡ endAt s (endAt s sentAt) → at ≤ length s
+      → CutAfter putTlv ReadTlv sizeOf widthsIn at s r → CutIn s r

@@ -80,7 +80,7 @@ views r g = each-at kit laws (ViewAt (join r)) (join r) (view-at (join r)) (r .t
 pub code-number : (n : ℕ) → n ≤ 1 → codeOf (infoOf n) ≡ n
 code-number = code-told
 
--- A Cut is at the first part that is not whole, behind TLVs that are.
+-- A Cut is at the first part that is not whole, behind TLVs that are, with as many missing as it lacks.
 pub refuses-cut : (s : List ℕ) → Bytes s → readMirroring s .refusal .number ≡ Number.Cut → CutAfter put ReadTlv sizeOf widthsIn 0 s (readMirroring s .refusal)
 refuses-cut =
     body-cut kit laws widthsIn (λ z. cuts-in (widthsIn z) (length z) (step z) (cuts z)) reader _ answer (λ s. refl) refl

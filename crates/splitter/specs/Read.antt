@@ -16,7 +16,7 @@ use Rattle.common_header.specs.declared.BmpCommonHeader.{BmpCommonHeader}
 use Rattle.common_header.specs.declared.CommonHeaderAnswer.{CommonHeaderAnswer}
 use Rattle.splitter.specs.declared.SplitAnswer.{SplitAnswer}
 
--- a good header in an input of this length: its length is 6 to the limit, and so many bytes are there; those that it says more are missing
+-- a good header in an input of this length: its length is 6 to the limit, and so many bytes are there; where there are fewer, the rest is missing
 abbrev pub judged : ℕ → BmpCommonHeader → SplitAnswer
 judged there h =
     pick (ltb (h .«msg_len») 6) (SplitAnswer.Refused (refusal Number.BadMessageLength 1))

@@ -58,7 +58,7 @@ complete v g s at r e =
           rw (le-leb size (length s - at) (omega (arith, left))) (ap (λ (w : Value). ReadData.Good (afiOf w) (safiOf w) (numberOf at w) (cursor (at + size))) value-is);
     }
 
--- Where fewer bytes are left, the whole value is Cut at its start.
+-- Where fewer bytes are left, the whole value is Cut at its start, with as many missing as it lacks.
 pub refuses-cut : (size : ℕ) (s : List ℕ) (at : ℕ) → length s - at < size → readData size s at ≡ ReadData.Cut (cutAt (length s) at size)
 refuses-cut size s at h = rw (lt-leb size (length s - at) h)
 

@@ -108,7 +108,7 @@ pub views : (r : Reading) → Good r → AllAt sizeOf (ViewAt (join r)) 4 (r .st
 unfolding be
 views r g = each-at kit laws (ViewAt (join r)) (join r) (view-at (join r)) (r .stats) (r .tail) 4 (g .each) refl
 
--- A Cut is at the first part that is not whole: the count, or a part of a record behind records that are.
+-- A Cut is at the first part that is not whole, with as many missing as it lacks: the count, or a part of a record behind records that are.
 pub refuses-cut : (s : List ℕ) → Bytes s → readStats s .refusal .number ≡ Number.Cut
     → FirstLacking (4 ∷ []) 0 (length s) (readStats s .refusal) ⊎ CutAfter putStat GoodStat sizeOf widthsIn 4 s (readStats s .refusal)
 refuses-cut = Cuts.refuses-cut

@@ -97,7 +97,7 @@ code-reason OutOfResources = refl
 code-reason RedundantConnection = refl
 code-reason PermanentlyAdministrativelyClosed = refl
 
--- A Cut is at the first part that is not whole, behind TLVs that are.
+-- A Cut is at the first part that is not whole, behind TLVs that are, with as many missing as it lacks.
 pub refuses-cut : (s : List ℕ) → Bytes s → readTermination s .refusal .number ≡ Number.Cut → CutAfter put ReadTlv sizeOf widthsIn 0 s (readTermination s .refusal)
 refuses-cut =
     body-cut kit laws widthsIn (λ z. cuts-in (widthsIn z) (length z) (step z) (cuts z)) reader _ answer (λ s. refl) refl

@@ -13,7 +13,7 @@ use Rattle.wire.specs.Number as Number
 use Rattle.wire.specs.Bytes.{pick, value, has, numAt, numberAt}
 use Rattle.wire.specs.Refusal.{refusal, lacking, cutAt}
 use Rattle.wire.specs.Exactly.{Reader}
-use Rattle.wire.specs.Waits.{Waited, WaitsBut, Tells, MissingTells}
+use Rattle.wire.specs.Waits.{Waited, WaitsBut, TellsMissing, MissingTells}
 use Rattle.wire.specs.declared.Refusal.{Refusal}
 use Rattle.wire.proofs.Bytes.{number-is}
 
@@ -26,11 +26,11 @@ module _ (n p : ℕ) (other : eqb n Number.Cut ≡ false) where
         enough = λ e h c d. absurd (eqb-false n Number.Cut other e);
       }
 
-  pub other-tells : Tells (refusal n p)
+  pub other-tells : TellsMissing (refusal n p)
   other-tells = record { cut-lacks = λ e. absurd (eqb-false n Number.Cut other e); lacking-cut = λ h. absurd (omega arith) }
 
 -- ---- a need of w bytes at a place of n bytes, and then what is judged behind it; the same with k bytes more
-pub cut-tells : (n at w : ℕ) → n - at < w → Tells (cutAt n at w)
+pub cut-tells : (n at w : ℕ) → n - at < w → TellsMissing (cutAt n at w)
 cut-tells n at w h = record { cut-lacks = λ e. omega arith; lacking-cut = λ e. refl }
 
 module _ (Again : ℕ → Type 0) (n k m at w : ℕ) (long : m ≡ n + k) (inside : at ≤ n) where
@@ -75,13 +75,13 @@ by-number-at w at {n} h f s t l =
 
 -- How a reader judges an input from a place on, where so many bytes are known to be there: with which refusal; what waiting gets; that each Cut is
 -- at that place or behind it; and that it is told.
-pub record Judge (Again : List ℕ → ℕ → Type 0) (at known : ℕ) : Type 0 where
+pub record Judge (Again : List ℕ → ℕ → ℕ → Type 0) (at known : ℕ) : Type 0 where
   pub judge : List ℕ → Refusal
-  pub waited : (s t : List ℕ) → at ≤ length s → known ≤ length s → Waited (Again s) (length t) (judge s) (judge (s ++ t))
+  pub waited : (s t : List ℕ) → at ≤ length s → known ≤ length s → Waited (Again s (length (s ++ t))) (length t) (judge s) (judge (s ++ t))
   pub not-before : (s : List ℕ) → at ≤ length s → known ≤ length s → judge s .number ≡ Number.Cut → at ≤ judge s .place
-  pub tells : (s : List ℕ) → at ≤ length s → known ≤ length s → Tells (judge s)
+  pub tells : (s : List ℕ) → at ≤ length s → known ≤ length s → TellsMissing (judge s)
 
-module _ {Again : List ℕ → ℕ → Type 0} {at known : ℕ} where
+module _ {Again : List ℕ → ℕ → ℕ → Type 0} {at known : ℕ} where
   -- it ends with a number that is no Cut
   unfoldable pub ends : (n p : ℕ) → eqb n Number.Cut ≡ false → Judge Again at known
   ends n p other =
@@ -106,10 +106,10 @@ module _ {Again : List ℕ → ℕ → Type 0} {at known : ℕ} where
       }
     where
       waited-so : (s t : List ℕ) → at ≤ length s → known ≤ length s
-          → Waited (Again s) (length t) (pick (b s) (x .judge s) (y .judge s)) (pick (b (s ++ t)) (x .judge (s ++ t)) (y .judge (s ++ t)))
+          → Waited (Again s (length (s ++ t))) (length t) (pick (b s) (x .judge s) (y .judge s)) (pick (b (s ++ t)) (x .judge (s ++ t)) (y .judge (s ++ t)))
       waited-so s t h k = rw (front s t k) (go (b s))
         where
-          go : (c : Bool) → Waited (Again s) (length t) (pick c (x .judge s) (y .judge s)) (pick c (x .judge (s ++ t)) (y .judge (s ++ t)))
+          go : (c : Bool) → Waited (Again s (length (s ++ t))) (length t) (pick c (x .judge s) (y .judge s)) (pick c (x .judge (s ++ t)) (y .judge (s ++ t)))
           go true = x .waited s t h k
           go false = y .waited s t h k
 
@@ -118,12 +118,12 @@ module _ {Again : List ℕ → ℕ → Type 0} {at known : ℕ} where
       go-before s h k true = x .not-before s h k
       go-before s h k false = y .not-before s h k
 
-      go-tells : (s : List ℕ) → at ≤ length s → known ≤ length s → (c : Bool) → Tells (pick c (x .judge s) (y .judge s))
+      go-tells : (s : List ℕ) → at ≤ length s → known ≤ length s → (c : Bool) → TellsMissing (pick c (x .judge s) (y .judge s))
       go-tells s h k true = x .tells s h k
       go-tells s h k false = y .tells s h k
 
   -- it goes by a number that the bytes that are known give
-  unfoldable pub given : (f : List ℕ → ℕ) → FromFront known f → ((n : ℕ) → Judge (λ s p. f s ≡ n → Again s p) at known) → Judge Again at known
+  unfoldable pub given : (f : List ℕ → ℕ) → FromFront known f → ((n : ℕ) → Judge (λ s m p. f s ≡ n → Again s m p) at known) → Judge Again at known
   given f front x =
       record {
         judge = λ s. x (f s) .judge s;
@@ -137,13 +137,13 @@ module _ {Again : List ℕ → ℕ → Type 0} {at known : ℕ} where
   -- it needs w bytes, and goes on at a place among them; where they have come since, and it is Cut here again, `Again` has to say so
   unfoldable pub need : (w p : ℕ) → at ≤ p → p ≤ at + w → (x : Judge Again p (at + w))
       → ((s t : List ℕ) → at ≤ length s → length s - at < w → at + w ≤ length (s ++ t) → x .judge (s ++ t) .number ≡ Number.Cut
-      → x .judge (s ++ t) .place ≡ at → Again s at)
+      → x .judge (s ++ t) .place ≡ at → Again s (length (s ++ t)) at)
       → Judge Again at known
   need w p from-here to-there x again =
       record {
         judge = λ s. pick (has w s at) (x .judge s) (cutAt (length s) at w);
         waited = λ s t h k.
-            need-waited (Again s) (length s) (length t) (length (s ++ t)) at w (length-append s t) h (x .judge s) (x .judge (s ++ t))
+            need-waited (Again s (length (s ++ t))) (length s) (length t) (length (s ++ t)) at w (length-append s t) h (x .judge s) (x .judge (s ++ t))
             (λ l. x .waited s t (omega arith) l) (again s t h);
         not-before = λ s h k. go-before s h (has w s at) refl;
         tells = λ s h k. go-tells s h (has w s at) refl;
@@ -157,7 +157,7 @@ module _ {Again : List ℕ → ℕ → Type 0} {at known : ℕ} where
           omega arith
       go-before s h false e c = omega arith
 
-      go-tells : (s : List ℕ) → at ≤ length s → (b : Bool) → has w s at ≡ b → Tells (pick b (x .judge s) (cutAt (length s) at w))
+      go-tells : (s : List ℕ) → at ≤ length s → (b : Bool) → has w s at ≡ b → TellsMissing (pick b (x .judge s) (cutAt (length s) at w))
       go-tells s h true e = let l = leb-true w (length s - at) e in x .tells s (omega arith) (omega arith)
       go-tells s h false e = cut-tells (length s) at w (leb-false w (length s - at) e)
 
@@ -168,11 +168,12 @@ module _ {Again : List ℕ → ℕ → Type 0} {at known : ℕ} where
       (λ s t h few l c e. let b = x .not-before (s ++ t) l l c in absurd (omega arith))
 
   -- it needs w bytes, and goes on in front of them: so it may be Cut here once more
-  unfoldable pub look : (w : ℕ) → ((s : List ℕ) → at ≤ length s → length s - at < w → Again s at) → Judge Again at (at + w) → Judge Again at known
-  look w again x = need w at (omega arith) (omega arith) x (λ s t h few l c e. again s h few)
+  unfoldable pub look : (w : ℕ) → ((s : List ℕ) (m : ℕ) → at ≤ length s → length s - at < w → at + w ≤ m → Again s m at) → Judge Again at (at + w)
+      → Judge Again at known
+  look w again x = need w at (omega arith) (omega arith) x (λ s t h few l c e. again s (length (s ++ t)) h few l)
 
 -- ---- a reader that judges the length, and then goes on from the start
-module _ {Again : List ℕ → ℕ → Type 0} (R : Reader) (x : Judge Again 0 0)
+module _ {Again : List ℕ → ℕ → ℕ → Type 0} (R : Reader) (x : Judge Again 0 0)
     (reads : (s : List ℕ) → R .refusalOf (R .read s) ≡ pick (ltb Number.limit (length s)) (refusal Number.TooLong 0) (x .judge s)) where
   short-read : (s : List ℕ) → length s ≤ Number.limit → R .refusalOf (R .read s) ≡ x .judge s
   short-read s h = reads s ∙ rw (le-ltb Number.limit (length s) h)
@@ -185,7 +186,7 @@ module _ {Again : List ℕ → ℕ → Type 0} (R : Reader) (x : Judge Again 0 0
   pub tells-by : MissingTells R
   tells-by s = rw (reads s) (go (ltb Number.limit (length s)))
     where
-      go : (b : Bool) → Tells (pick b (refusal Number.TooLong 0) (x .judge s))
+      go : (b : Bool) → TellsMissing (pick b (refusal Number.TooLong 0) (x .judge s))
       go true = other-tells Number.TooLong 0 refl
       go false = x .tells s (omega arith) (omega arith)
 

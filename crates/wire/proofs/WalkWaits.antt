@@ -13,7 +13,7 @@ use Rattle.wire.specs.Bytes.{pick, numAt}
 use Rattle.wire.specs.Refusal.{refusal, noRefusal, lacking, cutAt}
 use Rattle.wire.specs.Walk.{Step, stop, bad, item, End, tail, fault, Kit, Out, good, refused, from, fill, resume, readFrom}
 use Rattle.wire.specs.Exactly.{Reader}
-use Rattle.wire.specs.Waits.{Waited, Waits, Never, Tells, MissingTells}
+use Rattle.wire.specs.Waits.{Waited, Waits, Never, TellsMissing, MissingTells}
 use Rattle.wire.specs.declared.Refusal.{Refusal}
 use Rattle.wire.proofs.Walk.{Takes, resume-done, resume-stop, resume-bad, resume-full, resume-room}
 use Rattle.wire.proofs.Waits.{Judge, other-waited, other-tells, by-number, waits-by, tells-by, said}
@@ -81,7 +81,7 @@ num-more w at s t h = by-number w at h (λ n. n) s t (omega arith)
 -- a fault says that bytes are missing exactly where it is a Cut
 abbrev pub StepTells : {A : Type 0} → Step A → Type 0
 StepTells stop = Unit {0}
-StepTells (bad r) = Tells r
+StepTells (bad r) = TellsMissing r
 StepTells (item a) = Unit {0}
 
 -- ---- all of the walk
@@ -119,23 +119,23 @@ fill-not-before K (a ∷ l) n at table e c = go (leb (K .limit) n) (fill-not-bef
     go false i c = omega (arith, i c)
 
 module _ (K : Kit) (wait : StepsWait K) where
-  pub resume-tells : (f n at : ℕ) (table : List (K .Entry)) (s : List ℕ) → Tells (refusalIn (resume K f n at table s))
+  pub resume-tells : (f n at : ℕ) (table : List (K .Entry)) (s : List ℕ) → TellsMissing (refusalIn (resume K f n at table s))
   resume-tells zero n at table s = rw (resume-done K n at table s) (other-tells Number.Good 0 refl)
   resume-tells (suc f) n at table s =
       go (K .step (drop at s)) refl (wait .tells (drop at s)) (λ a. resume-tells f (n + 1) (at + K .size a) (set table n (K .entry at a)) s)
     where
       Onwards : K .Item → Type 0
-      Onwards a = Tells (refusalIn (resume K f (n + 1) (at + K .size a) (set table n (K .entry at a)) s))
+      Onwards a = TellsMissing (refusalIn (resume K f (n + 1) (at + K .size a) (set table n (K .entry at a)) s))
 
-      room : (a : K .Item) → K .step (drop at s) ≡ item a → (b : Bool) → leb (K .limit) n ≡ b → Onwards a → Tells (refusalIn (resume K (suc f) n at table s))
+      room : (a : K .Item) → K .step (drop at s) ≡ item a → (b : Bool) → leb (K .limit) n ≡ b → Onwards a → TellsMissing (refusalIn (resume K (suc f) n at table s))
       room a e true l i = rw (resume-full K n at table s (suc f) f refl a e (leb-true (K .limit) n l)) (other-tells Number.TooMany at refl)
       room a e false l i = rw (resume-room K n at table s (suc f) f refl a e (leb-false (K .limit) n l)) i
 
       go : (x : Step (K .Item)) → K .step (drop at s) ≡ x → StepTells (K .step (drop at s)) → ((a : K .Item) → Onwards a)
-          → Tells (refusalIn (resume K (suc f) n at table s))
+          → TellsMissing (refusalIn (resume K (suc f) n at table s))
       go stop e h i = rw (resume-stop K n at table s (suc f) e) (other-tells Number.Good 0 refl)
       go (bad r) e h i =
-          let told : Tells r = subst StepTells e h in
+          let told : TellsMissing r = subst StepTells e h in
           rw (resume-bad K n at table s (suc f) f refl r e) (record { cut-lacks = told .cut-lacks; lacking-cut = told .lacking-cut })
       go (item a) e h i = room a e (leb (K .limit) n) refl (i a)
 
@@ -204,11 +204,11 @@ module _ (K : Kit) (wait : StepsWait K) where
         go x y e d (whole {a}) i = room a e d (leb (K .limit) n) refl (i a)
 
   -- a reader that walks on from a place, over as many items as `most` allows
-  unfoldable pub walk-on : {Again : List ℕ → ℕ → Type 0} {at : ℕ} (most : List ℕ → ℕ) → ((s t : List ℕ) → most s ≤ most (s ++ t)) → Judge Again at at
+  unfoldable pub walk-on : {Again : List ℕ → ℕ → ℕ → Type 0} {at : ℕ} (most : List ℕ → ℕ) → ((s t : List ℕ) → most s ≤ most (s ++ t)) → Judge Again at at
   walk-on {Again} {at} most more =
       record {
         judge = λ s. refusalIn (readFrom K (most s) at s);
-        waited = λ s t h k. resume-waited (Again s) s t (most s) (most (s ++ t)) 0 at (replicate (K .limit) (K .none)) (more s t) h;
+        waited = λ s t h k. resume-waited (Again s (length (s ++ t))) s t (most s) (most (s ++ t)) 0 at (replicate (K .limit) (K .none)) (more s t) h;
         not-before = λ s h k c. fill-not-before K _ 0 at (replicate (K .limit) (K .none)) _ c;
         tells = λ s h k. resume-tells (most s) 0 at (replicate (K .limit) (K .none)) s;
       }

@@ -14,22 +14,24 @@ pub record Waited (Again : ℕ → Type 0) (n : ℕ) (r q : Refusal) : Type 0 wh
   pub too-few : r .number ≡ Number.Cut → n < r .missing → q ≡ lacking (r .place) (r .missing - n)
   pub enough : r .number ≡ Number.Cut → r .missing ≤ n → q .number ≡ Number.Cut → q .place ≡ r .place → Again (r .place)
 
--- So it is for every input s and all bytes t that come behind it, within the limit; `Again s` are the places at which s may be Cut twice.
-abbrev pub WaitsBut : (List ℕ → ℕ → Type 0) → Reader → Type 0
+-- So it is for every input s and all bytes t that come behind it, within the limit; `Again s m` are the places at which s, of which m bytes are
+-- there now, may be Cut once more.
+abbrev pub WaitsBut : (List ℕ → ℕ → ℕ → Type 0) → Reader → Type 0
 WaitsBut Again R =
-    (s t : List ℕ) → length (s ++ t) ≤ Number.limit → Waited (Again s) (length t) (R .refusalOf (R .read s)) (R .refusalOf (R .read (s ++ t)))
+    (s t : List ℕ) → length (s ++ t) ≤ Number.limit
+    → Waited (Again s (length (s ++ t))) (length t) (R .refusalOf (R .read s)) (R .refusalOf (R .read (s ++ t)))
 
 -- nothing is Cut twice at one place
-abbrev pub Never : List ℕ → ℕ → Type 0
-Never s place = ⊥
+abbrev pub Never : List ℕ → ℕ → ℕ → Type 0
+Never s m place = ⊥
 
 abbrev pub Waits : Reader → Type 0
 Waits R = WaitsBut Never R
 
 -- A refusal says that bytes are missing exactly where it is a Cut.
-pub record Tells (r : Refusal) : Type 0 where
+pub record TellsMissing (r : Refusal) : Type 0 where
   pub cut-lacks : r .number ≡ Number.Cut → 0 < r .missing
   pub lacking-cut : 0 < r .missing → r .number ≡ Number.Cut
 
 abbrev pub MissingTells : Reader → Type 0
-MissingTells R = (s : List ℕ) → Tells (R .refusalOf (R .read s))
+MissingTells R = (s : List ℕ) → TellsMissing (R .refusalOf (R .read s))

@@ -10,9 +10,6 @@ use Rattle.wire.proofs.need_at.Tie as tie
 rest-requires : tie.Need-rest-requires
 rest-requires c κs = search needs
 
-sub-missing : tie.Need-sub-missing
-sub-missing c = search needs
-
 returns : tie.Need-returns
 returns c =
     let a = c .before .before .args in
@@ -21,6 +18,9 @@ returns c =
 
 returns-2 : tie.Need-returns-2
 returns-2 c = let a = c .before .before .args in is-met (a .there) (a .at) (a .count) (omega arith)
+
+sub-missing : tie.Need-sub-missing
+sub-missing c = search needs
 
 pub need-at-spec : {M : Type 1} → statement M
 need-at-spec = tie.close (tie.spec rest-requires sub-missing returns returns-2)
