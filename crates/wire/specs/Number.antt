@@ -40,6 +40,12 @@ NoRoom = 11
 abbrev pub BadField : ℕ
 BadField = 12
 
+abbrev pub BoardFull : ℕ
+BoardFull = 13
+
+abbrev pub NoPeer : ℕ
+NoPeer = 14
+
 -- the longest slice that is read, and the longest message that is split off or written
 abbrev pub limit : ℕ
 limit = 1048576

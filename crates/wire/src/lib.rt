@@ -43,8 +43,14 @@ pub const BAD_MESSAGE_LENGTH: u8 = 10;
 // The output is too short.
 pub const NO_ROOM: u8 = 11;
 
-// The record cannot be written.
+// The record cannot be written, or counts more than its table holds.
 pub const BAD_FIELD: u8 = 12;
+
+// A new peer comes up, and the board has no free place.
+pub const BOARD_FULL: u8 = 13;
+
+// The peer is not on the board.
+pub const NO_PEER: u8 = 14;
 
 // The longest slice that is read, and the longest message that is split off or written.
 pub const LIMIT: usize = 1_048_576;
