@@ -1,0 +1,7 @@
+pub mod Firsts
+pub mod Long
+pub mod Answers
+pub mod Entries
+pub mod Maps
+pub mod Runs
+pub mod Promises
