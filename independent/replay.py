@@ -161,14 +161,19 @@ def rewriting(reader, writer):
     return run
 
 
+def read_behind(start, data, reader):
+    """What a reader answers of the bytes from a place on. A refusal's place is that in all the bytes, and what is missing stays."""
+    try:
+        return reader(data[start:])
+    except bmp.Refused as refusal:
+        raise bmp.Refused(refusal.number, refusal.place + start, refusal.missing) from None
+
+
 def run_equal(data, _arguments):
     if len(data) != 84:
         return BAD_LINE
     one = bmp.read_per_peer_header(data[:42]).record
-    try:
-        other = bmp.read_per_peer_header(data[42:]).record
-    except bmp.Refused as refusal:
-        raise bmp.Refused(refusal.number, refusal.place + 42, refusal.missing) from None
+    other = read_behind(42, data, bmp.read_per_peer_header).record
     stripped = bmp.equal_headers(bmp.strip_timestamp(one), bmp.strip_timestamp(other))
     return f"{yes_or_no(bmp.equal_headers(one, other))} {yes_or_no(stripped)}"
 
@@ -245,13 +250,14 @@ def answer(line):
         return show_refusal(refusal)
 
 
-def main():
+def answer_lines(answer_line):
+    """Lines end at an LF and nowhere else, and the last one may lack it. An empty one answers nothing."""
     write = sys.stdout.buffer.write
     for line in sys.stdin.buffer:
         line = line[:-1] if line.endswith(b"\n") else line
         if line:
-            write(answer(line).encode("ascii") + b"\n")
+            write(answer_line(line).encode("ascii") + b"\n")
 
 
 if __name__ == "__main__":
-    main()
+    answer_lines(answer)

@@ -19,6 +19,8 @@ import unittest
 from fractions import Fraction
 
 import bmp
+import board_cases
+import boards
 import cases
 import listing
 import records
@@ -430,6 +432,336 @@ class Missing(unittest.TestCase):
         self.assertEqual(list(records.answers(b"rewrite-common - 030000000607"))[0], "write common 6 into 7: refused 4 at 5 outside=same")
 
 
+class PlainBoard:
+    """A board once more, as plain as can be: pairs of a key and what `show` says of it, without places."""
+
+    def __init__(self):
+        self.pairs = []
+
+    def answer(self, verb, key, text):
+        present = [pair for pair in self.pairs if pair[0] == key]
+        if verb == "show":
+            return present[0][1] if present else "refused 14 at 0"
+        if verb == "up" and not present and len(self.pairs) == 64:
+            return "refused 13 at 0"
+        if verb != "up" and not present:
+            return "refused 14 at 0"
+        others = [pair for pair in self.pairs if pair[0] != key]
+        self.pairs = others if verb == "down" else others + [(key, "none yet" if verb == "up" else text)]
+        return "ok"
+
+
+class RandomCalls:
+    """Calls that look random and are the same at every run. A key is as `list` shows it; what is no part of it is any number."""
+
+    def __init__(self, seed):
+        self.random = random.Random(seed)
+
+    def below(self, limit):
+        return self.random.randrange(limit)
+
+    def key(self):
+        """Few values for each part, so that many keys differ in one part alone."""
+        kind, six = self.below(4), self.below(2)
+        address = "0" * 32 if kind == 3 else self.random.choice(["0" * 24 + "0a000001", "0" * 24 + "0a000002"])
+        return f"{kind}/{6 if six and kind != 3 else 4}/{self.below(3):016x}/{address}/{self.below(3):08x}"
+
+    def keys(self, count):
+        found = {}
+        while len(found) < count:
+            found[self.key()] = None
+        return list(found)
+
+    def header(self, key):
+        kind, family, distinguisher, address, bgp_id = key.split("/")
+        flags = self.below(128) + (128 if family == "6" else self.below(2) * 128 if kind == "3" else 0)
+        skipped = {"3": 32}.get(kind, 24 if family == "4" else 0)
+        address = self.random.randbytes(16).hex()[:skipped] + address[skipped:]
+        return f"0{kind}{flags:02x}{distinguisher}{address}{self.random.randbytes(4).hex()}{bgp_id}{self.random.randbytes(8).hex()}"
+
+    def report(self):
+        """The bytes of a report, and what `show` says of it."""
+        records, shown = "", []
+        for _ in range(self.below(4)):
+            kind, value = self.random.choice([0, 7, 23, 24, 25, 26, 43, 44, 65_531]), self.below(2**32)
+            length, form = self.random.choice([(4, f"C{value}"), (8, f"G{value}"), (11, f"A0/0/{value}"), (0, "R"), (5, "R"), (12, "R")])
+            records += f"{kind:04x}{length:04x}" + (f"{value:0{2 * length}x}" if length else "")
+            shown.append(f"{kind}:{length}:{'O' if kind in (24, 25, 44, 65_531) else 'N'}:{form}")
+        return f"{len(shown):08x}{records}", f"report count={len(shown)} counters=[{','.join(shown)}]"
+
+    def call(self, verb, key):
+        """The line, and what a report of it shows."""
+        body, shown = {"up": (peer_up(), ""), "down": ("04", ""), "show": ("", "")}.get(verb) or self.report()
+        return f"{verb} {self.header(key)}{body}".encode(), shown
+
+    def verb(self, weights=(5, 1, 5, 5)):
+        return self.random.choices(["up", "down", "report", "show"], weights)[0]
+
+
+class Boards(unittest.TestCase):
+    """The board and its lines: the rules by hand, a plainer board beside it, and what holds of all calls."""
+
+    KEY = "0/4/0000000000000000/0000000000000000000000000a000001/0a0a0a0a"
+    ABSENT = HEADER.replace("0a000001", "0a000002")
+
+    def setUp(self):
+        self.board = boards.Board()
+
+    def ask(self, line):
+        return boards.answer(self.board, line if isinstance(line, bytes) else line.encode())
+
+    def call(self, verb, *texts):
+        return self.ask(f"{verb} {digits(''.join(texts)) or '-'}")
+
+    def check(self, *asked):
+        for expected, *call in asked:
+            self.assertEqual(self.call(*call) if len(call) > 1 else self.ask(call[0]), expected, call)
+
+    def test_ups_reports_and_downs(self):
+        seven = "00000001 0007 0008 0000000000000007"
+        self.check(
+            ("count=0 peers=[]", "list"),
+            ("refused 14 at 0", "show", HEADER),
+            ("refused 14 at 0", "report", HEADER, seven),
+            ("refused 14 at 0", "down", HEADER, "04"),
+            ("ok", "up", HEADER, peer_up()),
+            ("none yet", "show", HEADER),
+            (f"count=1 peers=[{self.KEY}]", "list"),
+            ("ok", "report", HEADER, seven),
+            ("report count=1 counters=[7:8:N:G7]", "show", HEADER),
+            ("ok", "report", HEADER, "00000000"),
+            ("report count=0 counters=[]", "show", HEADER),
+            ("ok", "up", HEADER, peer_up()),
+            ("none yet", "show", HEADER),
+            ("ok", "report", HEADER, seven),
+            ("ok", "clear"),
+            ("refused 14 at 0", "show", HEADER),
+            ("ok", "up", HEADER, peer_up()),
+            ("none yet", "show", HEADER),
+            ("ok", "down", HEADER, "04"),
+            ("refused 14 at 0", "down", HEADER, "04"),
+            ("count=0 peers=[]", "list"),
+        )
+
+    def test_reports(self):
+        """Of a raw value no bytes are kept."""
+        forms = "0000 0004 00000001 0007 0008 0000000000000002 0009 000b 0001 80 0000000000000003 0018 0000 0018 0003 aabbcc 0000 0004 00000004"
+        shown = "0:4:N:C1,7:8:N:G2,9:11:N:A1/128/3,24:0:O:R,24:3:O:R,0:4:N:C4"
+        self.check(
+            ("ok", "up", HEADER, peer_up()),
+            ("ok", "report", HEADER, "00000006", forms, "ff"),
+            (f"report count=6 counters=[{shown}]", "show", HEADER),
+            ("ok", "report", HEADER, "00000040", "0000 0004 00000005" * 64),
+            ("report count=64 counters=[" + ",".join(64 * ["0:4:N:C5"]) + "]", "show", HEADER),
+            ("refused 7 at 302", "report", HEADER, "00000041", "0000 0000" * 65),
+            ("ok", "report", HEADER, "00000001 fffb 0004 00000006"),
+            ("report count=1 counters=[65531:4:O:C6]", "show", HEADER),
+        )
+        with self.assertRaises(bmp.Refused) as refusal:
+            self.board.report(None, bmp.StatsReport(65, 65 * [records.NO_COUNTER]))
+        self.assertEqual((refusal.exception.number, refusal.exception.place), (12, 0))
+
+    def test_one_key(self):
+        """The AS, the time, the flags but for the family, and skipped bytes tell no peers apart."""
+        others = [
+            HEADER.replace("0000fde8", "fffffde9"),
+            HEADER.replace("00000001 0007a120", "00000000 00000000"),
+            HEADER.replace("00 00 ", "00 7f "),
+            HEADER.replace("000000000000000000000000 ", "ffffffffffffffffffffffff "),
+        ]
+        self.assertEqual(len({*others, HEADER}), 5)
+        self.check(("ok", "up", HEADER, peer_up()))
+        for number, other in enumerate(others):
+            self.check(
+                ("none yet", "show", other),
+                ("ok", "report", other, f"00000001 0007 0004 0000000{number}"),
+                (f"report count=1 counters=[7:4:N:C{number}]", "show", HEADER),
+                ("ok", "up", other, peer_up()),
+                (f"count=1 peers=[{self.KEY}]", "list"),
+            )
+        full = "03 ff 0000000000000000 20010db8000000000000000000000001 fffffde8 0a0a0a0a 00000000 00000000"
+        self.check(
+            ("ok", "up", LOC_RIB_HEADER, peer_up()),
+            ("none yet", "show", full),
+            ("ok", "down", full, "04"),
+            ("refused 14 at 0", "show", LOC_RIB_HEADER),
+        )
+
+    def test_other_keys(self):
+        """Each of the five parts tells two peers apart, also where all other bytes are alike."""
+        others = [
+            HEADER.replace("00 00 ", "01 00 "),
+            HEADER.replace("00 00 ", "02 00 "),
+            HEADER.replace("00 00 ", "03 00 "),
+            HEADER.replace("00 00 ", "00 80 "),
+            HEADER.replace("00 0000000000000000 ", "00 8000000000000000 "),
+            HEADER.replace("0a000001", "0a000002"),
+            HEADER.replace("0a0a0a0a", "0a0a0a0b"),
+        ]
+        self.assertEqual(len({*others, HEADER}), 8)
+        self.check(("ok", "up", HEADER, peer_up()), ("ok", "report", HEADER, "00000000"))
+        for other in others:
+            self.check(
+                ("refused 14 at 0", "show", other),
+                ("refused 14 at 0", "report", other, "00000000"),
+                ("refused 14 at 0", "down", other, "04"),
+            )
+        self.check(*[("ok", "up", other, peer_up()) for other in others], ("report count=0 counters=[]", "show", HEADER))
+        self.check(*[("none yet", "show", other) for other in others])
+        self.assertEqual(
+            self.ask("list"),
+            f"count=8 peers=[{self.KEY},1{self.KEY[1:]},2{self.KEY[1:]},3/4/0000000000000000/{'0' * 32}/0a0a0a0a,"
+            f"0/6{self.KEY[3:]},0/4/8000000000000000{self.KEY[20:]},{self.KEY.replace('0a000001', '0a000002')},"
+            f"{self.KEY.replace('0a0a0a0a', '0a0a0a0b')}]",
+        )
+
+    def listed(self):
+        """The BGP IDs of `list`, as numbers."""
+        count, peers = re.fullmatch(r"count=(\d+) peers=\[(.*)\]", self.ask("list")).groups()
+        found = [int(key[-8:], 16) for key in peers.split(",")] if peers else []
+        self.assertEqual(len(found), int(count))
+        return found
+
+    def numbered(self, verb, number):
+        return self.call(verb, HEADER.replace("0a0a0a0a", f"{number:08x}"), {"up": peer_up(), "down": "04", "report": "00000000", "show": ""}[verb])
+
+    def test_places(self):
+        for number in range(64):
+            self.assertEqual(self.numbered("up", number), "ok")
+        self.assertEqual(self.listed(), list(range(64)))
+        for verb, number, expected in (
+            ("up", 64, "refused 13 at 0"), ("show", 64, "refused 14 at 0"), ("up", 63, "ok"), ("up", 0, "ok"), ("down", 9, "ok"),
+            ("up", 64, "ok"), ("up", 65, "refused 13 at 0"), ("down", 40, "ok"), ("report", 5, "ok"), ("down", 5, "ok"), ("up", 66, "ok"),
+            ("show", 66, "none yet"), ("up", 67, "ok"), ("up", 68, "refused 13 at 0"), ("up", 67, "ok"), ("up", 9, "refused 13 at 0"),
+        ):  # fmt: skip
+            self.assertEqual(self.numbered(verb, number), expected, (verb, number))
+        self.assertEqual(self.listed(), [*range(5), 66, 6, 7, 8, 64, *range(10, 40), 67, *range(41, 64)])
+        for number in self.listed():
+            self.assertEqual(self.numbered("down", number), "ok")
+        self.assertEqual(self.listed(), [])
+
+    def test_refusals(self):
+        """First the header's, then the body's behind its 42 bytes, then the board's; and none changes the board."""
+        short = open_message(19, own=18)
+        self.check(("ok", "up", HEADER, peer_up()), ("ok", "report", HEADER, "00000000"))
+        for header in (HEADER, self.ABSENT):
+            self.check(
+                ("refused 2 at 42 missing 16", "up", header),
+                ("refused 2 at 42 missing 1", "down", header),
+                ("refused 2 at 42 missing 4", "report", header),
+                ("refused 2 at 62 missing 19", "up", header, peer_up()[:40]),
+                ("refused 6 at 78", "up", header, peer_up(sent=short)),
+                ("refused 6 at 107", "up", header, peer_up(received=short)),
+                ("refused 7 at 238", "up", header, peer_up("00000000" * 33)),
+                ("refused 4 at 42", "down", header, "07"),
+                ("refused 2 at 50 missing 9", "report", header, "00000001 0009 000b 0001"),
+                ("refused 7 at 302", "report", header, "00000041", "0000 0000" * 65),
+            )
+        for verb in ("up", "down", "report", "show"):
+            self.check(
+                ("refused 2 at 0 missing 1", verb, ""),
+                ("refused 4 at 0", verb, "04"),
+                ("refused 2 at 38 missing 1", verb, digits(HEADER)[:82]),
+                ("refused 4 at 0", verb, "04", digits(HEADER)[2:], "ff"),
+            )
+            self.assertEqual(self.ask(f"{verb} {digits(HEADER)}+1048535*00"), "refused 1 at 0")
+        self.check(
+            ("report count=0 counters=[]", "show", HEADER, "ff"),
+            ("refused 14 at 0", "show", self.ABSENT, "00000000"),
+            (f"count=1 peers=[{self.KEY}]", "list"),
+        )
+
+    def test_bad_lines(self):
+        """After each of them the board shows what it showed before."""
+        self.check(("ok", "up", HEADER, peer_up()), ("ok", "report", HEADER, "00000000"))
+        one, two = digits(HEADER), digits(self.ABSENT)
+        lines = ["clear ", " clear", "Clear", "clear -", "clear 00", "clear\r", "list ", "list -", "LIST", "up", "up ", f"up  {two}{peer_up()}",
+                 f"up {two}{peer_up()} ", f"up - {two}{peer_up()}", f"Up {two}{peer_up()}", f"up {two}{peer_up()}0", f"up\t{two}{peer_up()}",
+                 f"down {one}04 ", f"down {one.upper()}04", f"down {one}4", f"down {one}04\r", f"down{one}04", f"report {one}00000000 -",
+                 f"report {one}00000001000000040000000A", f"report {one}+0*00+00000000", "down", "report", "show", f"show {one} ", "show", "-"]
+        for line in [*lines, "up " + two + peer_up() + "00" * 65_536]:
+            self.assertEqual(self.ask(line), "bad line", line)
+            self.check(("report count=0 counters=[]", "show", HEADER), (f"count=1 peers=[{self.KEY}]", "list"))
+
+    def test_against_a_plainer_board(self):
+        """There are more keys than places, so that all refusals come; `list` has the peers of the plain board in some order."""
+        for seed in range(8):
+            calls, plain = RandomCalls(seed), PlainBoard()
+            keys, seen = calls.keys(30 + 10 * seed), set()
+            self.ask("clear")
+            for _ in range(1500):
+                verb, key = calls.verb(), calls.random.choice(keys)
+                line, shown = calls.call(verb, key)
+                expected = plain.answer(verb, key, shown)
+                seen.add((verb, expected.split(" at ")[0] if verb != "show" else expected.split()[0]))
+                self.assertEqual(self.ask(line), expected, line)
+            peers = self.ask("list").split("peers=")[1].strip("[]").split(",")
+            self.assertEqual(sorted(peers), sorted(key for key, _shown in plain.pairs))
+            self.assertTrue(seen >= {("down", "refused 14"), ("report", "refused 14"), ("show", "refused"), ("show", "none"), ("show", "report")})
+            self.assertEqual(("up", "refused 13") in seen, seed > 3, seed)
+
+    def test_each_peer_for_itself(self):
+        """What is answered of one key goes by the calls for it alone: the others, of which there is always room for one more, have no say."""
+        for seed in range(20):
+            calls = RandomCalls(seed)
+            key, *others = calls.keys(64)
+            own = [calls.call(calls.verb((2, 1, 3, 4)), key)[0] for _ in range(60)]
+            answers = []
+            for between in (0, 1, 15):
+                self.ask("clear")
+                answers.append([])
+                for line in own:
+                    for _ in range(between):
+                        self.assertNotEqual(self.ask(calls.call(calls.verb(), calls.random.choice(others))[0]), "refused 13 at 0")
+                    answers[-1].append(self.ask(line))
+            self.assertEqual(answers[0], answers[1])
+            self.assertEqual(answers[0], answers[2])
+
+    def test_room_after_a_down(self):
+        """Whoever went down left a place for one that is new."""
+        for seed in range(6):
+            calls, downs, full = RandomCalls(seed), 0, 0
+            keys = calls.keys(90)
+            self.ask("clear")
+            for _ in range(1500):
+                verb = calls.verb((8, 1, 1, 0))
+                answer = self.ask(calls.call(verb, calls.random.choice(keys))[0])
+                full += answer == "refused 13 at 0"
+                if (verb, answer) != ("down", "ok"):
+                    continue
+                downs += 1
+                new = next(key for key in keys if self.ask(calls.call("show", key)[0]) == "refused 14 at 0")
+                self.assertEqual(self.ask(calls.call("up", new)[0]), "ok")
+            self.assertTrue(downs > 50 and full > 50, (downs, full))
+
+    def test_list(self):
+        """Each bad line of the list is one, each refusal has its words, and every number that a line can get is there."""
+        words = re.compile(r"refused 2 at \d+ missing [1-9]\d*|refused (1|4|6|7) at \d+|refused 1[34] at 0")
+        answers = [self.ask(line) for line in board_cases.lines() if line]
+        for answer in answers:
+            self.assertEqual(answer.startswith("refused"), words.fullmatch(answer) is not None, answer)
+        numbers = {answer.split()[1] for answer in answers if answer.startswith("refused")}
+        self.assertEqual(numbers, {"1", "2", "4", "6", "7", "13", "14"})
+        self.assertEqual({self.ask(line) for line in board_cases.bad_lines()}, {"bad line"})
+        self.assertEqual(answers.count("bad line"), len(list(board_cases.bad_lines())) + 1)
+
+    def test_three_vrfs(self):
+        """One address, one AS and one BGP ID in three tables: each has its own number of routes while all three are up."""
+        looks, shown = [], {}
+        for line in board_cases.stream_group(board_cases.sample("frr-10.3-three-vrfs")):
+            answer = self.ask(line)
+            if line.startswith(b"show"):
+                header = bmp.read_per_peer_header(replay.bytes_of(line.split()[1])).record
+                routes = re.search(r"\b7:8:N:G(\d+)", answer)
+                if routes and header.peer_ip.octets[12:] == bytes([10, 9, 0, 2]):
+                    shown[f"{header.peer_distinguisher:016x}"] = int(routes[1])
+            if line == b"list":
+                looks.append(shown)
+                shown = {}
+        self.assertIn({"0000000000000000": 60, "0000fde800000001": 70, "0002fa56ea000002": 80}, looks)
+        self.assertEqual(looks[-1], {"0000000000000000": 60, "0000fde800000001": 70, "0000fde80000000b": 70})
+
+
 class Programs(unittest.TestCase):
     """The programs as they are run."""
 
@@ -445,6 +777,13 @@ class Programs(unittest.TestCase):
         expected = b"refused 2 at 1 missing 3\nbad line\nbad line\ngood stop=1 tail=1 warn=0 reason=1 data=some:\n"
         self.assertEqual(self.run_program("replay.py", given=given), expected)
         self.assertEqual(self.run_program("replay.py"), b"")
+
+    def test_boards(self):
+        up = f"up {digits(HEADER)}{peer_up()}\n".encode()
+        given = b"list\n\n" + up + b"clear\r\n\x0bclear\nlist\n\nclear\n\nlist\n" + up + b"show " + digits(HEADER).encode()
+        expected = f"count=0 peers=[]\nok\nbad line\nbad line\ncount=1 peers=[{Boards.KEY}]\nok\ncount=0 peers=[]\nok\nnone yet\n"
+        self.assertEqual(self.run_program("boards.py", given=given), expected.encode())
+        self.assertEqual(self.run_program("boards.py"), b"")
 
     def test_listing(self):
         self.assertEqual(self.run_program("listing.py", given=self.STREAM), self.LISTING)
@@ -717,6 +1056,28 @@ def down_text(message):
     return text
 
 
+def last_reports(messages, stream):
+    """What a board shows last of each peer. An up or a down takes a report away, so all peers are shown before it, and at the end."""
+    board, headers, shown = boards.Board(), {}, {}
+
+    def look():
+        for label, header in headers.items():
+            answer = boards.answer(board, b"show " + header.hex().encode())
+            if answer.startswith("report "):
+                shown[label] = {int(kind): int(value) for kind, value in re.findall(r"(\d+):\d+:[NO]:[CG](\d+)", answer)}
+
+    for message in messages:
+        verb = board_cases.VERB_OF_TYPE.get(message.kind)
+        if verb in ("up", "down"):
+            look()
+        if verb:
+            data = stream[message.place + 6 : message.place + message.length]
+            headers[f"{message.peer_label()} {message.bgp_id()}"] = data[:42]
+            boards.answer(board, f"{verb} {data.hex()}".encode())
+    look()
+    return {label.rsplit(" ", 1)[0]: numbers for label, numbers in shown.items()}
+
+
 class Recordings(unittest.TestCase):
     """What another program saw in each recording."""
 
@@ -827,6 +1188,17 @@ class Recordings(unittest.TestCase):
                 for peer, types in by_peer.items()
             ]
             self.assertEqual(sorted(got), sorted(self.said(lines, "stats of")))
+
+        self.each(check)
+
+    def test_last_reports(self):
+        def check(stream, messages, lines):
+            shown = last_reports(messages, stream)
+            expected = {}
+            for line in self.said(lines, "stats of"):
+                label, numbers = line.split(": ", 1)
+                expected[label] = {int(kind): int(last) for kind, last in re.findall(r"(\d+): \d+\.\.(\d+) ", numbers)}
+            self.assertEqual(shown, expected)
 
         self.each(check)
 

@@ -69,7 +69,8 @@ fn counter_entry(i: u64, counter: StatCounter) -> Shown {
     )
 }
 
-fn stat_name(stat_type: StatType) -> u64 {
+// The mark of a type: N where it has a name, O where it has none.
+pub fn stat_name(stat_type: StatType) -> u64 {
     match stat_type {
         StatType::Other(_) => b'O' as u64,
         _ => b'N' as u64,
@@ -112,7 +113,8 @@ fn value_entry(i: u64, kind: u64, size: u64, name: u64, value: StatsData) -> Sho
     }
 }
 
-fn of_seven(form: usize, a: u64, b: u64, c: u64, d: u64, e: u64, f: u64, g: u64) -> Shown {
+// A form with seven numbers.
+pub fn of_seven(form: usize, a: u64, b: u64, c: u64, d: u64, e: u64, f: u64, g: u64) -> Shown {
     Shown {
         form: form,
         count: 0,
@@ -236,8 +238,8 @@ pub fn equal(body: &[u8]) -> Shown {
     trial_forms::judged(first.refusal, second_answer)
 }
 
-// The place counts from the first header's start, and what is missing stays.
-fn behind_header(refusal: Refusal) -> Refusal {
+// What is refused behind a header: the place counts from the header's start, and what is missing stays.
+pub fn behind_header(refusal: Refusal) -> Refusal {
     Refusal {
         number: refusal.number,
         place: std::num::wrapping_add_usize(refusal.place, 42),

@@ -71,7 +71,8 @@ pub fn of_five(form: usize, count: usize, a: u64, b: u64, c: u64, d: u64, e: u64
     }
 }
 
-// The numbers of the forms. The first two are refusals. The three from PEER_UP on begin a table, whose entries follow, and then TABLE_END.
+// The numbers of the forms. The first two are refusals. The three from PEER_UP on begin a table, whose entries follow, and then TABLE_END; those from OK on
+// are a board's, of which two begin a table as well.
 pub const REFUSED: usize = 0;
 
 pub const CUT: usize = 1;
@@ -134,6 +135,16 @@ pub const TABLE_END: usize = 29;
 
 pub const NOTHING: usize = 30;
 
+pub const OK: usize = 31;
+
+pub const NONE_YET: usize = 32;
+
+pub const REPORT: usize = 33;
+
+pub const PEERS: usize = 34;
+
+pub const PEER: usize = 35;
+
 // Puts an answer or an entry by its form. The forms stand in the order of their numbers, and each ends at a bar.
 pub fn put(out: &mut [u8], at: usize, shown: Shown, body: &[u8]) -> usize {
     let forms = b"refused # at #\n|\
@@ -166,7 +177,12 @@ pub fn put(out: &mut [u8], at: usize, shown: Shown, body: &[u8]) -> usize {
         ,0:#:bgp$|\
         ,1:#:info#|\
         ]\n|\
-        |";
+        |\
+        ok\n|\
+        none yet\n|\
+        report count=# counters=[|\
+        count=# peers=[|\
+        ,#/#/@/@@/&|";
     put_shown(out, at, forms, shown, body)
 }
 

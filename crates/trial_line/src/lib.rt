@@ -271,7 +271,8 @@ fn found(afi: Afi, asn_len: AsnLength, peer_type: BmpPeerType) -> FoundArguments
     FoundArguments::Arguments(arguments)
 }
 
-fn same(text: &[u8], word: &[u8]) -> bool
+// Whether a text is this word.
+pub fn same(text: &[u8], word: &[u8]) -> bool
     ensures { λ r. ⌜ r ≡ same (now (text .entry)) (now (word .entry)) ⌝ }
 {
     if text.len() != word.len() {

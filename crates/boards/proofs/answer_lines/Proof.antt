@@ -1,0 +1,91 @@
+use borrow.Author.Needs.{needs}
+use mathlib.Core.Path.{_≡_}
+use Prim.Native.Nat.{_-_, _≤_}
+use lib.ListN.{length}
+use Rattle.boards.proofs.answer_lines.Statement.{statement}
+use Rattle.boards.proofs.answer_lines.Tie as tie
+
+abbrev Inv-loop : tie.InvT-loop
+Inv-loop piece₀ line₀ bytes₀ out₀ input₀ board₀ lines₀ piece line bytes out input board lines = (lines ≤ 18446744073709551615) × (((length piece ≡ length piece₀) × (length line ≡ length line₀)) × ((length bytes ≡ length bytes₀) × (length out ≡ length out₀)))
+
+abbrev μ-loop : tie.MeasureT-loop
+μ-loop piece₀ line₀ bytes₀ out₀ input₀ board₀ lines₀ piece line bytes out input board lines = 18446744073709551615 - lines
+
+no-input-requires : tie.Need-no-input-requires Inv-loop μ-loop
+no-input-requires c κs = search needs
+
+empty-requires : tie.Need-empty-requires Inv-loop μ-loop
+empty-requires c κs = search needs
+
+loop-holds : tie.Need-loop-holds Inv-loop μ-loop
+loop-holds c = search needs
+
+read-line-requires : tie.Need-read-line-requires Inv-loop μ-loop
+read-line-requires c κs = search needs
+
+answer-line-requires : tie.Need-answer-line-requires Inv-loop μ-loop
+answer-line-requires c κs = search needs
+
+same-length : tie.Need-same-length Inv-loop μ-loop
+same-length c = search needs
+
+same-length-2 : tie.Need-same-length-2 Inv-loop μ-loop
+same-length-2 c = search needs
+
+same-length-3 : tie.Need-same-length-3 Inv-loop μ-loop
+same-length-3 c = search needs
+
+same-length-4 : tie.Need-same-length-4 Inv-loop μ-loop
+same-length-4 c = search needs
+
+returns : tie.Need-returns Inv-loop μ-loop
+returns c = search needs
+
+add-lines : tie.Need-add-lines Inv-loop μ-loop
+add-lines c = search needs
+
+loop-less : tie.Need-loop-less Inv-loop μ-loop
+loop-less c = search needs
+
+loop-again : tie.Need-loop-again Inv-loop μ-loop
+loop-again c = search needs
+
+same-length-5 : tie.Need-same-length-5 Inv-loop μ-loop
+same-length-5 c = search needs
+
+same-length-6 : tie.Need-same-length-6 Inv-loop μ-loop
+same-length-6 c = search needs
+
+same-length-7 : tie.Need-same-length-7 Inv-loop μ-loop
+same-length-7 c = search needs
+
+same-length-8 : tie.Need-same-length-8 Inv-loop μ-loop
+same-length-8 c = search needs
+
+returns-2 : tie.Need-returns-2 Inv-loop μ-loop
+returns-2 c = search needs
+
+pub answer-lines-spec : {M : Type 1} → statement M
+answer-lines-spec =
+    tie.close
+    (tie.spec
+    Inv-loop
+    μ-loop
+    no-input-requires
+    empty-requires
+    loop-holds
+    read-line-requires
+    answer-line-requires
+    same-length
+    same-length-2
+    same-length-3
+    same-length-4
+    returns
+    add-lines
+    loop-less
+    loop-again
+    same-length-5
+    same-length-6
+    same-length-7
+    same-length-8
+    returns-2)
