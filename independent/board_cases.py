@@ -7,7 +7,8 @@ import itertools
 import os
 import sys
 
-from cases import FULL_ADDRESS, LARGEST, LIMIT, bgp, counting, cuts, filled, part_text, peer, peer_up, stats, tlv, u8, u16, u32, u64, whole_table
+from cases import FULL_ADDRESS, LARGEST, LIMIT, bgp, counting, cuts, filled, part_text, peer, peer_up, stats, tlv, whole_table
+from cases import u8, u16, u32, u64
 
 MAX_PEERS = 64
 MAX_CHARACTERS = 131_072

@@ -631,7 +631,7 @@ class Boards(unittest.TestCase):
         self.assertEqual(self.listed(), list(range(64)))
         for verb, number, expected in (
             ("up", 64, "refused 13 at 0"), ("show", 64, "refused 14 at 0"), ("up", 63, "ok"), ("up", 0, "ok"), ("down", 9, "ok"),
-            ("up", 64, "ok"), ("up", 65, "refused 13 at 0"), ("down", 40, "ok"), ("report", 5, "ok"), ("down", 5, "ok"), ("up", 66, "ok"),
+            ("up", 30, "ok"), ("up", 64, "ok"), ("up", 65, "refused 13 at 0"), ("down", 40, "ok"), ("report", 5, "ok"), ("down", 5, "ok"), ("up", 66, "ok"),
             ("show", 66, "none yet"), ("up", 67, "ok"), ("up", 68, "refused 13 at 0"), ("up", 67, "ok"), ("up", 9, "refused 13 at 0"),
         ):  # fmt: skip
             self.assertEqual(self.numbered(verb, number), expected, (verb, number))

@@ -88,6 +88,11 @@ absent k (p ∷ ps) h =
     by-test (hits k p) (λ e. absurd (let w : ⊥ = let z = rw e at h in omega arith in w))
     (λ e. (e, absent k ps (let z = rw e at h in omega arith)))
 
+pub absent-first : (k : PeerKey) (ps : List Place) → Absent k ps → first (hits k) ps ≡ length ps
+unfolding first Absent
+absent-first k [] a = refl
+absent-first k (p ∷ ps) a = rw (a .0) (ap suc (absent-first k ps (a .1)))
+
 pub absent-shows : (k : PeerKey) (ps : List Place) (qs : List Peer) → Absent k ps → peerOf k ps qs ≡ none
 unfolding Absent peerOf
 absent-shows k [] qs a = refl

@@ -72,9 +72,9 @@ pub fn up(board: Board, header: BmpPerPeerHeader, notification: PeerUpNotificati
             key: key,
             used: true,
         };
-        let peer = silent_peer();
+        let fresh = silent_peer();
         next.places[at] = place;
-        next.peers[at] = peer;
+        next.peers[at] = fresh;
     }
     Updated {
         number: number,
@@ -92,9 +92,9 @@ pub fn down(board: Board, header: BmpPerPeerHeader, notification: PeerDownNotifi
     let number = number_at(at, wire::NO_PEER);
     if number == wire::GOOD {
         let place = free_place();
-        let peer = silent_peer();
+        let none = silent_peer();
         next.places[at] = place;
-        next.peers[at] = peer;
+        next.peers[at] = none;
     }
     Updated {
         number: number,
@@ -144,10 +144,10 @@ pub fn look(board: Board, key: PeerKey) -> Looked
 fn number_at(at: usize, refusal: u8) -> u8
     ensures { λ r. ⌜ r ≡ numberAt at refusal ⌝ }
 {
-    if at < PEER_PLACES {
-        return wire::GOOD;
+    if PEER_PLACES <= at {
+        return refusal;
     }
-    refusal
+    wire::GOOD
 }
 
 // A report that counts more than its table holds is refused before its peer is looked for.
@@ -199,14 +199,14 @@ fn is_of(place: Place, key: PeerKey) -> bool
 fn find_free(places: [Place; PEER_PLACES]) -> usize
     ensures { λ r. ⌜ r ≡ findFree places ⌝ }
 {
-    let mut i: usize = 0;
-    while i < PEER_PLACES {
-        if !places[i].used {
-            return i;
+    let mut at: usize = 0;
+    while at < PEER_PLACES {
+        if !places[at].used {
+            return at;
         }
-        i += 1;
+        at += 1;
     }
-    i
+    at
 }
 
 fn free_place() -> Place

@@ -31,6 +31,8 @@ const LONGEST_ANSWER: usize = 8_192;
 const BODY_AT: usize = 42;
 
 enum Verb {
+    Clear,
+    List,
     Up,
     Down,
     Report,
@@ -38,7 +40,20 @@ enum Verb {
     Unknown,
 }
 
-// What a line was answered, and the board after it.
+// What a line asks for: nothing, a verb that stands alone, or one with how many bytes its text writes.
+enum Asked {
+    Nothing,
+    Bad,
+    Alone(Verb),
+    With(Verb, usize),
+}
+
+struct Line {
+    input: Input,
+    asked: Asked,
+}
+
+// What a call was answered, and the board after it.
 struct Answered {
     shown: Shown,
     board: Board,
@@ -58,8 +73,10 @@ fn answer_lines(piece: &mut [u8], line: &mut [u8], bytes: &mut [u8], out: &mut [
     let mut board = board::empty();
     let mut lines: u64 = 0;
     while lines < trial_input::NO_END {
-        input = trial_input::read_line(input, piece, line);
-        board = answer_line(board, line, input, bytes, out);
+        let read = read_line(input, piece, line, bytes);
+        input = read.input;
+        let asked = read.asked;
+        board = answer(board, asked, bytes, out);
         if input.ended {
             return;
         }
@@ -67,87 +84,113 @@ fn answer_lines(piece: &mut [u8], line: &mut [u8], bytes: &mut [u8], out: &mut [
     }
 }
 
-fn answer_line(
-    board: Board,
-    line: &[u8],
-    input: Input,
-    bytes: &mut [u8],
-    out: &mut [u8],
-) -> Board {
-    let text = trial_input::front(line, input.line_length);
-    if text.len() == 0 {
-        return board;
+// ---- a line, taken apart
+fn read_line(before: Input, piece: &mut [u8], line: &mut [u8], bytes: &mut [u8]) -> Line {
+    let input = trial_input::read_line(before, piece, line);
+    let length = input.line_length;
+    Line {
+        input: input,
+        asked: ask(trial_input::front(line, length), bytes),
     }
-    if trial_line::same(text, b"list") {
-        print_peers(out, board);
-        return board;
-    }
-    if trial_line::same(text, b"clear") {
-        print(out, trial_forms::bare(trial_forms::OK));
-        return board::empty();
-    }
-    answer_call(board, text, bytes, out)
 }
 
 // A verb, and behind one space the text of its bytes.
-fn answer_call(board: Board, text: &[u8], bytes: &mut [u8], out: &mut [u8]) -> Board {
+fn ask(text: &[u8], bytes: &mut [u8]) -> Asked {
+    if text.len() == 0 {
+        return Asked::Nothing;
+    }
     let space = trial_hex::place_of(text, b' ');
     if text.len() <= space {
-        print_bad_line(out);
-        return board;
+        return alone(verb_of(text));
     }
     let verb = verb_of(&text[0..space]);
     let Unhexed::Bytes(count) = trial_hex::unhex(&text[space + 1..], bytes) else {
-        print_bad_line(out);
-        return board;
+        return Asked::Bad;
     };
-    answer_verb(verb, board, trial_input::front(bytes, count), out)
+    with_bytes(verb, count)
 }
 
 fn verb_of(text: &[u8]) -> Verb {
-    if trial_line::same(text, b"up") {
-        return Verb::Up;
+    let words = b"clear         \
+        list          \
+        up            \
+        down          \
+        report        \
+        show          ";
+    match trial_line::place_among(words, text) {
+        0 => Verb::Clear,
+        1 => Verb::List,
+        2 => Verb::Up,
+        3 => Verb::Down,
+        4 => Verb::Report,
+        5 => Verb::Show,
+        _ => Verb::Unknown,
     }
-    if trial_line::same(text, b"down") {
-        return Verb::Down;
-    }
-    if trial_line::same(text, b"report") {
-        return Verb::Report;
-    }
-    if trial_line::same(text, b"show") {
-        return Verb::Show;
-    }
-    Verb::Unknown
 }
 
-fn answer_verb(verb: Verb, board: Board, s: &[u8], out: &mut [u8]) -> Board {
+fn alone(verb: Verb) -> Asked {
     match verb {
-        Verb::Up => print_answer(out, up(board, s)),
-        Verb::Down => print_answer(out, down(board, s)),
-        Verb::Report => print_answer(out, report(board, s)),
-        Verb::Show => {
-            print_lookup(out, board, s);
+        Verb::Clear => Asked::Alone(verb),
+        Verb::List => Asked::Alone(verb),
+        _ => Asked::Bad,
+    }
+}
+
+fn with_bytes(verb: Verb, count: usize) -> Asked {
+    match verb {
+        Verb::Clear => Asked::Bad,
+        Verb::List => Asked::Bad,
+        Verb::Unknown => Asked::Bad,
+        _ => Asked::With(verb, count),
+    }
+}
+
+// ---- its answer
+fn answer(board: Board, asked: Asked, bytes: &[u8], out: &mut [u8]) -> Board {
+    match asked {
+        Asked::Nothing => board,
+        Asked::Bad => {
+            print(out, trial_forms::bare(trial_forms::BAD_LINE));
             board
         }
-        Verb::Unknown => {
-            print_bad_line(out);
-            board
+        Asked::Alone(verb) => answer_alone(board, verb, out),
+        Asked::With(verb, count) => {
+            answer_with(board, verb, trial_input::front(bytes, count), out)
         }
     }
 }
 
-fn print_answer(out: &mut [u8], answered: Answered) -> Board {
-    print(out, answered.shown);
-    answered.board
+fn answer_alone(board: Board, verb: Verb, out: &mut [u8]) -> Board {
+    let Verb::List = verb else {
+        print(out, trial_forms::bare(trial_forms::OK));
+        return board::empty();
+    };
+    let places = board.places;
+    print_peers(out, places);
+    board
+}
+
+fn answer_with(board: Board, verb: Verb, s: &[u8], out: &mut [u8]) -> Board {
+    let Verb::Show = verb else {
+        let answered = call(board, verb, s);
+        print(out, answered.shown);
+        return answered.board;
+    };
+    print_lookup(out, board, s);
+    board
+}
+
+fn call(board: Board, verb: Verb, s: &[u8]) -> Answered {
+    match verb {
+        Verb::Up => up(board, s),
+        Verb::Down => down(board, s),
+        _ => report(board, s),
+    }
 }
 
 fn print(out: &mut [u8], shown: Shown) {
     let end = trial_forms::put(out, 0, shown, b"");
     trial_input::write(trial_input::front(out, end));
-}
-
-fn print_bad_line(out: &mut [u8]) {
-    print(out, trial_forms::bare(trial_forms::BAD_LINE));
 }
 
 // ---- the calls: each reads header and body, and lends the board
@@ -337,8 +380,7 @@ fn counter_shown(i: u64, counter: KeptCounter) -> Shown {
 }
 
 // ---- the peers on the board
-fn print_peers(out: &mut [u8], board: Board) {
-    let places = board.places;
+fn print_peers(out: &mut [u8], places: [Place; board::PEER_PLACES]) {
     let mut next = trial_forms::put(out, 0, counted(trial_forms::PEERS, used(places)), b"");
     let mut shown: u64 = 0;
     let mut i: usize = 0;

@@ -55,9 +55,9 @@ impl KeptCounter {
 pub fn no_report() -> KeptReport
     ensures { λ r. ⌜ r ≡ noReport ⌝ }
 {
-    let zero = counter_of(0, 0, 0, 0, 0);
+    let none = counter_of(0, 0, 0, 0, 0);
     KeptReport {
-        counters: [zero; stats_report::COUNTER_PLACES],
+        counters: [none; stats_report::COUNTER_PLACES],
         count: 0,
     }
 }

@@ -13,9 +13,9 @@ ghost use Rattle.board.specs.Board.{Upped, Downed, Reported, LookedUp};
 pub fn peer_up(board: &mut Board, header: BmpPerPeerHeader, notification: PeerUpNotification) -> u8
     ensures { λ r. ⌜ Upped (now (board .entry)) header notification r (now (board .exit)) ⌝ }
 {
-    let updated = board::up(*board, header, notification);
-    *board = updated.board;
-    updated.number
+    let entered = board::up(*board, header, notification);
+    *board = entered.board;
+    entered.number
 }
 
 pub fn peer_down(
@@ -25,17 +25,17 @@ pub fn peer_down(
 ) -> u8
     ensures { λ r. ⌜ Downed (now (board .entry)) header notification r (now (board .exit)) ⌝ }
 {
-    let updated = board::down(*board, header, notification);
-    *board = updated.board;
-    updated.number
+    let removed = board::down(*board, header, notification);
+    *board = removed.board;
+    removed.number
 }
 
 pub fn peer_report(board: &mut Board, header: BmpPerPeerHeader, report: StatsReport) -> u8
     ensures { λ r. ⌜ Reported (now (board .entry)) header report r (now (board .exit)) ⌝ }
 {
-    let updated = board::report(*board, header, report);
-    *board = updated.board;
-    updated.number
+    let reported = board::report(*board, header, report);
+    *board = reported.board;
+    reported.number
 }
 
 // The peer of a key, or 14.

@@ -7,7 +7,7 @@ use trial_forms::Kind;
 use trial_hex::Unhexed;
 use wire::View;
 ghost use mathlib.Core.Path.{_≡_};
-ghost use Prim.Native.Nat.{_*_, _≤_};
+ghost use Prim.Native.Nat.{_*_, _/_, _≤_};
 ghost use lib.ListN.{length};
 ghost use Rattle.wire.specs.View.{viewed};
 ghost use Rattle.trial_hex.specs.Hex.{unhexed, unhexedInto};
@@ -164,6 +164,13 @@ fn reader_of(text: &[u8]) -> FoundReader
     FoundReader::Reader(trial_forms::kind_at(i))
 }
 
+// The place of a text among words, of which the number is the answer where it is none of them. Each stands in 14 bytes, with spaces behind it.
+pub fn place_among(words: &[u8], text: &[u8]) -> usize
+    ensures { λ r. ⌜ r ≡ wordIn (length (now (words .entry)) / 14) (now (words .entry)) (now (text .entry)) ⌝ }
+{
+    word_in(words, words.len() / 14, text)
+}
+
 // The place of a text among words that stand in 14 bytes each, with spaces behind them; the number of words where it is none of them.
 fn word_in(words: &[u8], count: usize, text: &[u8]) -> usize
     requires { ⌜ 14 * count ≤ length (now words) ⌝ }
@@ -271,8 +278,7 @@ fn found(afi: Afi, asn_len: AsnLength, peer_type: BmpPeerType) -> FoundArguments
     FoundArguments::Arguments(arguments)
 }
 
-// Whether a text is this word.
-pub fn same(text: &[u8], word: &[u8]) -> bool
+fn same(text: &[u8], word: &[u8]) -> bool
     ensures { λ r. ⌜ r ≡ same (now (text .entry)) (now (word .entry)) ⌝ }
 {
     if text.len() != word.len() {

@@ -27,14 +27,14 @@ mul-place c = let h = found-at (c .before .before .before .before .find-key .res
 element-set-from-place : tie.Need-element-set-from-place
 element-set-from-place c = let h = found-at (c .before .before .before .before .find-key .result) (c .before .before .before .number-at .result) 14 (c .before .before .before .number-at .ensures) (lit< tt) (c .before .before .if1 .taken) in omega arith
 
-mul-peer : tie.Need-mul-peer
-mul-peer c = let h = found-at (c .before .before .before .before .find-key .result) (c .before .before .before .number-at .result) 14 (c .before .before .before .number-at .ensures) (lit< tt) (c .before .before .if1 .taken) in omega arith
+mul-none : tie.Need-mul-none
+mul-none c = let h = found-at (c .before .before .before .before .find-key .result) (c .before .before .before .number-at .result) 14 (c .before .before .before .number-at .ensures) (lit< tt) (c .before .before .if1 .taken) in omega arith
 
-element-set-from-peer : tie.Need-element-set-from-peer
-element-set-from-peer c = let h = found-at (c .before .before .before .before .find-key .result) (c .before .before .before .number-at .result) 14 (c .before .before .before .number-at .ensures) (lit< tt) (c .before .before .if1 .taken) in omega arith
+element-set-from-none : tie.Need-element-set-from-none
+element-set-from-none c = let h = found-at (c .before .before .before .before .find-key .result) (c .before .before .before .number-at .result) 14 (c .before .before .before .number-at .ensures) (lit< tt) (c .before .before .if1 .taken) in omega arith
 
 returns : tie.Need-returns
-returns c = 
+returns c =
     down-done _ _ _ (c .before .before .before .before .before .key-of .ensures) _ _ (c .before .before .before .before .find-key .ensures) (c .before .before .before .number-at .ensures) (c .before .before .if1 .taken) _ (c .before .free-place .ensures) _ (c .silent-peer .ensures)
 
 returns-2 : tie.Need-returns-2
@@ -51,7 +51,7 @@ down-spec =
     silent-peer-requires
     mul-place
     element-set-from-place
-    mul-peer
-    element-set-from-peer
+    mul-none
+    element-set-from-none
     returns
     returns-2)

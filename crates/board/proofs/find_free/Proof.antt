@@ -1,4 +1,4 @@
--- `board::find_free` meets its contract: at the loop's head the search from `i` on decides.
+-- `board::find_free` meets its contract: at the loop's head the search from `at` on decides.
 use mathlib.Core.Path.{_≡_}
 use Prim.Native.Nat.{_≤_, _-_}
 use native.Mathlib.Omega.{arith}
@@ -10,10 +10,10 @@ use Rattle.board.proofs.find_free.Statement.{statement}
 use Rattle.board.proofs.find_free.Tie as tie
 
 abbrev Inv-loop : tie.InvT-loop
-Inv-loop places i₀ i = (i ≤ 64) × From free places i
+Inv-loop places at₀ at = (at ≤ 64) × From free places at
 
 abbrev μ-loop : tie.MeasureT-loop
-μ-loop places i₀ i = 64 - i
+μ-loop places at₀ at = 64 - at
 
 loop-holds : tie.Need-loop-holds Inv-loop μ-loop
 loop-holds c = (search needs, begins _ _)
@@ -25,23 +25,23 @@ element-copy-out-if1 : tie.Need-element-copy-out-if1 Inv-loop μ-loop
 element-copy-out-if1 c = search needs
 
 returns : tie.Need-returns Inv-loop μ-loop
-returns c = 
+returns c =
     let l : length (c .before .before .before .args .t1) ≡ 64 = search needs in
     found _ _ _ _ (omega arith) (c .before .before .loop .inv .1) (c .if1 .taken)
 
-add-i : tie.Need-add-i Inv-loop μ-loop
-add-i c = omega arith
+add-at : tie.Need-add-at Inv-loop μ-loop
+add-at c = omega arith
 
 loop-less : tie.Need-loop-less Inv-loop μ-loop
 loop-less c = omega arith
 
 loop-again : tie.Need-loop-again Inv-loop μ-loop
-loop-again c = 
+loop-again c =
     let l : length (c .before .before .before .args .t1) ≡ 64 = search needs in
     (omega arith, passed _ _ _ _ (omega arith) (c .before .before .loop .inv .1) (c .if1 .left))
 
 returns-2 : tie.Need-returns-2 Inv-loop μ-loop
-returns-2 c = 
+returns-2 c =
     let l : length (c .before .before .args .t1) ≡ 64 = search needs in
     ended _ _ _ (omega arith) (c .before .loop .inv .1)
 
@@ -55,7 +55,7 @@ find-free-spec =
     mul-if1
     element-copy-out-if1
     returns
-    add-i
+    add-at
     loop-less
     loop-again
     returns-2)

@@ -24,14 +24,14 @@ mul-place c = let h = found-at (c .before .before .before .place-for .result) (c
 element-set-from-place : tie.Need-element-set-from-place
 element-set-from-place c = let h = found-at (c .before .before .before .place-for .result) (c .before .before .number-at .result) 13 (c .before .before .number-at .ensures) (lit< tt) (c .before .if1 .taken) in omega arith
 
-mul-peer : tie.Need-mul-peer
-mul-peer c = let h = found-at (c .before .before .before .place-for .result) (c .before .before .number-at .result) 13 (c .before .before .number-at .ensures) (lit< tt) (c .before .if1 .taken) in omega arith
+mul-fresh : tie.Need-mul-fresh
+mul-fresh c = let h = found-at (c .before .before .before .place-for .result) (c .before .before .number-at .result) 13 (c .before .before .number-at .ensures) (lit< tt) (c .before .if1 .taken) in omega arith
 
-element-set-from-peer : tie.Need-element-set-from-peer
-element-set-from-peer c = let h = found-at (c .before .before .before .place-for .result) (c .before .before .number-at .result) 13 (c .before .before .number-at .ensures) (lit< tt) (c .before .if1 .taken) in omega arith
+element-set-from-fresh : tie.Need-element-set-from-fresh
+element-set-from-fresh c = let h = found-at (c .before .before .before .place-for .result) (c .before .before .number-at .result) 13 (c .before .before .number-at .ensures) (lit< tt) (c .before .if1 .taken) in omega arith
 
 returns : tie.Need-returns
-returns c = 
+returns c =
     up-done _ _ _ (c .before .before .before .before .key-of .ensures) _ _ (c .before .before .before .place-for .ensures) (c .before .before .number-at .ensures) (c .before .if1 .taken) _ (c .silent-peer .ensures)
 
 returns-2 : tie.Need-returns-2
@@ -47,7 +47,7 @@ up-spec =
     silent-peer-requires
     mul-place
     element-set-from-place
-    mul-peer
-    element-set-from-peer
+    mul-fresh
+    element-set-from-fresh
     returns
     returns-2)

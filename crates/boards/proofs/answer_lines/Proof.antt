@@ -23,8 +23,8 @@ loop-holds c = search needs
 read-line-requires : tie.Need-read-line-requires Inv-loop μ-loop
 read-line-requires c κs = search needs
 
-answer-line-requires : tie.Need-answer-line-requires Inv-loop μ-loop
-answer-line-requires c κs = search needs
+answer-requires : tie.Need-answer-requires Inv-loop μ-loop
+answer-requires c κs = search needs
 
 same-length : tie.Need-same-length Inv-loop μ-loop
 same-length c = search needs
@@ -75,7 +75,7 @@ answer-lines-spec =
     empty-requires
     loop-holds
     read-line-requires
-    answer-line-requires
+    answer-requires
     same-length
     same-length-2
     same-length-3
