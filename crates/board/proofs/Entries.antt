@@ -153,12 +153,13 @@ pub new-once : (k : PeerKey) (ps : List Place) (i : ℕ) → Absent k ps → Onc
 unfolding Absent Once
 new-once k [] i a o = tt
 new-once k (p ∷ ps) zero a o = ((λ other s. rw (← keys-equal k other s) (a .1)), o .1)
-new-once k (p ∷ ps) (suc i) a o =
-    ((λ other s.
-    absent-set other ps i (usedBy k)
-    (by-test (sameKey k other) (λ t. never (sym s ∙ rw (← keys-equal k other t) (a .0))) (λ t. t))
-    (o .0 other s)),
-    new-once k ps i (a .1) (o .1))
+new-once k (p ∷ ps) (suc i) a o = (
+  (λ other s.
+      absent-set other ps i (usedBy k)
+      (by-test (sameKey k other) (λ t. never (sym s ∙ rw (← keys-equal k other t) (a .0))) (λ t. t))
+      (o .0 other s)),
+  new-once k ps i (a .1) (o .1),
+)
 
 pub gone-once : (ps : List Place) (i : ℕ) → Once ps → Once (set ps i freePlace)
 unfolding Once

@@ -153,9 +153,10 @@ module _ (b : Board) (w : Whole b) where
           by-test (ltb (first (hits k) ps) 64) (λ t. absurd (let y : ⊥ = let x = rw t at (rw t at z) in omega arith in y))
           (λ t.
           by-test (ltb (first free ps) 64) (λ f. absurd (let y : ⊥ = let x = rw (t, f) at z in omega arith in y))
-          (λ f.
-          (absent k ps (rw (w .places-long) (ltb-false (first (hits k) ps) 64 t)),
-          full ps (rw (w .places-long) (ltb-false (first free ps) 64 f)) ∙ w .places-long)))
+          (λ f. (
+            absent k ps (rw (w .places-long) (ltb-false (first (hits k) ps) 64 t)),
+            full ps (rw (w .places-long) (ltb-false (first free ps) 64 f)) ∙ w .places-long,
+          )))
 
       all : Absent k ps × (used ps ≡ 64) → upOf b k .number ≡ Number.BoardFull
       all a =

@@ -323,13 +323,7 @@ fn print_report(out: &mut [u8], report: KeptReport) {
 }
 
 // A counter past the count is none.
-fn put_counter(
-    out: &mut [u8],
-    at: usize,
-    i: usize,
-    count: usize,
-    counter: KeptCounter,
-) -> usize {
+fn put_counter(out: &mut [u8], at: usize, i: usize, count: usize, counter: KeptCounter) -> usize {
     if i < count {
         return trial_forms::put(out, at, counter_shown(i as u64, counter), b"");
     }
@@ -341,12 +335,7 @@ fn counted(form: usize, count: u64) -> Shown {
 }
 
 fn print_end(out: &mut [u8], at: usize) {
-    let end = trial_forms::put(
-        out,
-        at,
-        trial_forms::bare(trial_forms::TABLE_END),
-        b"",
-    );
+    let end = trial_forms::put(out, at, trial_forms::bare(trial_forms::TABLE_END), b"");
     trial_input::write(trial_input::front(out, end));
 }
 
@@ -373,9 +362,7 @@ fn counter_shown(i: u64, counter: KeptCounter) -> Shown {
             safi as u64,
             n,
         ),
-        KeptData::Raw => {
-            trial_entries::of_seven(trial_forms::RAW, i, kind, size, name, 0, 0, 0)
-        }
+        KeptData::Raw => { trial_entries::of_seven(trial_forms::RAW, i, kind, size, name, 0, 0, 0) }
     }
 }
 

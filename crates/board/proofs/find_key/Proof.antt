@@ -28,7 +28,7 @@ is-of-requires : tie.Need-is-of-requires Inv-loop μ-loop
 is-of-requires c κs = search needs
 
 returns : tie.Need-returns Inv-loop μ-loop
-returns c = 
+returns c =
     let l : length (c .before .before .before .before .before .args .t1) ≡ 64 = search needs in
     found _ _ _ _ (omega arith) (c .before .before .before .before .loop .inv .1) (sym (c .before .is-of .ensures) ∙ c .if1 .taken)
 
@@ -39,12 +39,12 @@ loop-less : tie.Need-loop-less Inv-loop μ-loop
 loop-less c = omega arith
 
 loop-again : tie.Need-loop-again Inv-loop μ-loop
-loop-again c = 
+loop-again c =
     let l : length (c .before .before .before .before .before .args .t1) ≡ 64 = search needs in
     (omega arith, passed _ _ _ _ (omega arith) (c .before .before .before .before .loop .inv .1) (sym (c .before .is-of .ensures) ∙ c .if1 .left))
 
 returns-2 : tie.Need-returns-2 Inv-loop μ-loop
-returns-2 c = 
+returns-2 c =
     let l : length (c .before .before .args .t1) ≡ 64 = search needs in
     ended _ _ _ (omega arith) (c .before .loop .inv .1)
 

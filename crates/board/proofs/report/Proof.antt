@@ -24,7 +24,7 @@ element-set-from-peer : tie.Need-element-set-from-peer
 element-set-from-peer c = let h = report-at (c .before .before .before .find-key .result) (c .before .before .report-number .result) (c .before .before .before .before .before .before .args .counters .count) (c .before .before .report-number .ensures) (c .before .if1 .taken) in omega arith
 
 returns : tie.Need-returns
-returns c = 
+returns c =
     report-done _ _ _ (c .before .before .before .before .key-of .ensures) _ _ (c .before .before .before .find-key .ensures) (c .before .before .before .before .before .before .args .counters) (c .before .before .report-number .ensures) (c .before .if1 .taken) _ (c .reported-peer .ensures)
 
 returns-2 : tie.Need-returns-2

@@ -6,13 +6,13 @@ use Rattle.board.proofs.report_number.Statement.{statement}
 use Rattle.board.proofs.report_number.Tie as tie
 
 returns : tie.Need-returns
-returns c = rw (lt-ltb _ _ (c .if1 .taken))
+returns c = rw (lt-ltb 64 (c .before .args .count) (c .if1 .taken))
 
 number-at-requires : tie.Need-number-at-requires
 number-at-requires c κs = search needs
 
 returns-2 : tie.Need-returns-2
-returns-2 c = c .number-at .ensures ∙ rw (le-ltb _ _ (c .before .if1 .left))
+returns-2 c = c .number-at .ensures ∙ rw (le-ltb 64 (c .before .before .args .count) (c .before .if1 .left))
 
 pub report-number-spec : {M : Type 1} → statement M
 report-number-spec =
