@@ -1,8 +1,8 @@
 -- Laws of the plain map: what a key finds after another was put or taken away, and how many keys there are. Assumes nothing.
 use mathlib.Core.Path.{_≡_, refl, sym, ap, _∙_}
-use Prim.Native.Nat.{ℕ, suc, _+_}
+use Prim.Native.Nat.{_+_}
 use mathlib.Core.Bool.{true, false}
-use mathlib.Core.List.{List, [], _∷_}
+use mathlib.Core.List.{[], _∷_}
 use mathlib.Core.Option.{Option, some, none}
 use native.Mathlib.Omega.{arith}
 use lib.ListN.{length}
@@ -57,7 +57,7 @@ length-without k (e ∷ m) a h =
 pub length-new : (k : PeerKey) (m : Map) → find k m ≡ none → length (without k m) ≡ length m
 length-new k m n = ap length (none-without k m n)
 
-apart-without : (k : PeerKey) (m : Map) → Apart m → Apart (without k m)
+pub apart-without : (k : PeerKey) (m : Map) → Apart m → Apart (without k m)
 unfolding Apart find without
 apart-without k [] a = tt
 apart-without k (e ∷ m) a =
@@ -67,9 +67,6 @@ apart-without k (e ∷ m) a =
 pub apart-put : (k : PeerKey) (v : Peer) (m : Map) → Apart m → Apart (put k v m)
 unfolding Apart
 apart-put k v m a = (find-without k k m ∙ rw (key-self k), apart-without k m a)
-
-pub apart-gone : (k : PeerKey) (m : Map) → Apart m → Apart (without k m)
-apart-gone = apart-without
 
 pub not-there : (o : Option Peer) → has o ≡ false → o ≡ none
 not-there none e = refl

@@ -1,14 +1,13 @@
 -- What a user of the board relies on. Assumes nothing.
 use mathlib.Core.Path.{_≡_, refl, sym, ap, _∙_}
-use Prim.Native.Nat.{ℕ, _<_, _≤_}
-use mathlib.Core.Bool.{true, false}
+use Prim.Native.Nat.{ℕ, _<_}
+use mathlib.Core.Bool.{false}
 use mathlib.Core.List.{List, []}
 use mathlib.Core.Logic.{_↔_}
 use native.Mathlib.Omega.{arith}
 use borrow.Author.Tests.{ltb-true, ltb-false, lt-ltb, le-ltb}
 use lib.Dec.{ltb}
 use lib.ListN.{length, getD, set, length-set}
-use Rattle.wire.specs.Bytes.{pick}
 use Rattle.wire.specs.Number as Number
 use Rattle.wire.proofs.Determined.{determined}
 use Rattle.peer_key.specs.Key.{keyOf, sameKey, Part, Agree}

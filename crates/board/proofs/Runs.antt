@@ -1,8 +1,8 @@
 -- A board that began empty holds what the plain map does after each call, and what a key shows goes by the calls for it alone. Assumes
 -- nothing.
 use mathlib.Core.Path.{_≡_, refl, sym, ap, _∙_}
-use Prim.Native.Nat.{ℕ, zero, suc, _+_, _≤_, _<_}
-use mathlib.Core.Bool.{Bool, true, false}
+use Prim.Native.Nat.{ℕ, zero, suc, _≤_, _<_}
+use mathlib.Core.Bool.{true, false}
 use mathlib.Core.List.{List, [], _∷_}
 use mathlib.Core.Option.{Option, some, none}
 use native.Mathlib.Omega.{arith}
@@ -27,7 +27,7 @@ use Rattle.board.specs.declared.Peer.{Peer}
 use Rattle.board.specs.declared.Board.{Board}
 use Rattle.board.proofs.Firsts.{by-test}
 use Rattle.board.proofs.Entries.{never, peerOf, used, Absent, Once, peer-aside, entry-aside, other-misses, free-misses-at, absent, absent-shows, present-shows, set-shows, same-place, new-shows, gone-absent, new-once, gone-once, room, full, new-used, gone-used}
-use Rattle.board.proofs.Maps.{Apart, find-without, find-put, length-without, length-new, apart-put, apart-gone, not-there}
+use Rattle.board.proofs.Maps.{Apart, find-without, find-put, length-without, length-new, apart-put, apart-without, not-there}
 
 -- the board holds what the map does
 pub record Holds (b : Board) (m : Map) : Type 0 where
@@ -127,7 +127,7 @@ module _ (b : Board) (m : Map) (s : Holds b m) where
             ∙ sym (find-without k other m);
         size = omega arith;
         once = gone-once ps (at k) (s .once);
-        apart = apart-gone k m (s .apart);
+        apart = apart-without k m (s .apart);
         places-long = length-set ps (at k) freePlace ∙ s .places-long;
         peers-long = length-set qs (at k) silent ∙ s .peers-long;
       }

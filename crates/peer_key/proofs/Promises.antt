@@ -2,12 +2,8 @@
 use mathlib.Core.Bool.{Bool, true, false}
 use mathlib.Core.Logic.{_↔_}
 use mathlib.Core.Path.{_≡_, refl, ap}
-use Prim.Native.Nat.{ℕ}
-use native.Mathlib.Omega.{arith}
 use Rattle.wire.proofs.Determined.{determined}
-use Rattle.models.specs.declared.Afi.{Afi}
 use Rattle.per_peer_record.specs.declared.BmpPerPeerHeader.{BmpPerPeerHeader}
-use Rattle.per_peer_type.specs.declared.BmpPeerType.{BmpPeerType}
 use Rattle.peer_key.specs.Key.{keyOf, sameKey, Part, peer-type, family, distinguisher, address, bgp-id, Agree}
 use Rattle.peer_key.specs.declared.PeerKey.{PeerKey}
 use Rattle.peer_key.proofs.Equality.{keys-equal, key-self}

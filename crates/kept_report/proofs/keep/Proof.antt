@@ -1,16 +1,10 @@
 -- `kept_report::keep` meets its contract: at the loop's head the table has what is kept of the first `i` counters.
 use mathlib.Core.Path.{_≡_, sym, ap, _∙_}
-use Prim.Native.Nat.{ℕ, _-_, _<_, _≤_}
-use mathlib.Core.List.{List}
+use Prim.Native.Nat.{ℕ, _-_, _≤_}
 use native.Mathlib.Omega.{arith}
 use borrow.Author.Needs.{needs}
-use borrow.Author.Tests.{ltb-true, ltb-false}
-use lib.Dec.{ltb}
-use lib.ListN.{length, take, set}
-use Rattle.stats_report.specs.Grammar.{places}
-use Rattle.stats_report.specs.declared.StatCounter.{StatCounter}
+use lib.ListN.{take}
 use Rattle.kept_report.specs.Kept.{keptReport, table}
-use Rattle.kept_report.specs.declared.KeptCounter.{KeptCounter}
 use Rattle.kept_report.proofs.Tables.{begins, turn, at-most, counters-long}
 use Rattle.kept_report.proofs.keep.Statement.{statement}
 use Rattle.kept_report.proofs.keep.Tie as tie
