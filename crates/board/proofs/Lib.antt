@@ -4,4 +4,5 @@ pub mod Answers
 pub mod Entries
 pub mod Maps
 pub mod Runs
+pub mod Zero
 pub mod Promises

@@ -29,6 +29,7 @@ use Rattle.board.specs.declared.Looked.{Looked}
 use Rattle.board.proofs.Firsts.{by-test, set-found}
 use Rattle.board.proofs.Entries.{peerOf, used, Absent, peer-aside, entry-aside, other-misses, free-misses-at, absent, absent-first, same-place, room, full}
 use Rattle.board.proofs.Runs.{empty-holds, run-holds, shows-peer, by-itself, keyRun}
+use Rattle.board.proofs.Zero.{ZeroIfFree, zero-at}
 
 -- a board as the type has it: 64 places, and a peer for each
 pub record Whole (b : Board) : Type 0 where
@@ -54,6 +55,11 @@ same-shown xs ys k e nx ny =
     px .1 k
     ∙ ap shownOf (by-itself xs [] k (rw (px .0) at nx) ∙ (ap (keyRun (find k [])) e ∙ sym (by-itself ys [] k (rw (py .0) at ny))))
     ∙ sym (py .1 k)
+
+-- Nothing of a peer that went stays: at a place that no peer uses, place and peer are all zero.
+pub free-is-zero : (xs : List Call) (i : ℕ)
+    → ZeroIfFree (getD (boardRun emptyBoard xs .1 .places) i freePlace) (getD (boardRun emptyBoard xs .1 .peers) i silent)
+free-is-zero xs i = let p = run-holds emptyBoard [] empty-holds xs .1 in zero-at xs i (p .places-long ∙ sym (p .peers-long))
 
 -- ---- on any board, also one that no calls have made
 module _ (b : Board) (w : Whole b) where
