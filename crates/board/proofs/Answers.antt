@@ -22,7 +22,7 @@ module _ (at n refusal : ℕ) (e : n ≡ numberAt at refusal) where
   pub found-at : 0 < refusal → n ≡ 0 → at < 64
   found-at above z = by-test (ltb at 64) (λ t. ltb-true at 64 t) (λ t. absurd (let w : ⊥ = let y : n ≡ refusal = e ∙ rw t in omega arith in w))
 
-  pub none-at : (n ≡ 0 → ⊥) → (64 ≤ at) × (n ≡ refusal)
+  none-at : (n ≡ 0 → ⊥) → (64 ≤ at) × (n ≡ refusal)
   none-at some = by-test (ltb at 64) (λ t. absurd (some (e ∙ rw t))) (λ t. (ltb-false at 64 t, e ∙ rw t))
 
 -- and of a report, that its count is one that is kept

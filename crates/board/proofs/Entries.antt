@@ -11,7 +11,7 @@ use Rattle.peer_key.specs.Key.{sameKey}
 use Rattle.peer_key.specs.declared.PeerKey.{PeerKey}
 use Rattle.peer_key.proofs.Equality.{keys-equal, key-self}
 use Rattle.board.specs.First.{first}
-use Rattle.board.specs.Board.{hits, free, freePlace, usedBy}
+use Rattle.board.specs.Board.{hits, free, freePlace, usedBy, used, Absent}
 use Rattle.board.specs.declared.Place.{Place}
 use Rattle.board.specs.declared.Peer.{Peer}
 use Rattle.board.proofs.Firsts.{by-test, found-passes}
@@ -25,29 +25,20 @@ peerOf k [] qs = none
 peerOf k (p ∷ ps) [] = none
 peerOf k (p ∷ ps) (q ∷ qs) = pick (hits k p) (some q) (peerOf k ps qs)
 
--- how many places are used
-unfoldable pub used : List Place → ℕ
-used [] = 0
-used (p ∷ ps) = pick (p .used) (suc (used ps)) (used ps)
-
--- no place is used by k; no two places are used by one key
-unfoldable pub Absent : PeerKey → List Place → Type 0
-Absent k [] = Unit {0}
-Absent k (p ∷ ps) = (hits k p ≡ false) × Absent k ps
-
+-- no two places are used by one key
 unfoldable pub Once : List Place → Type 0
 Once [] = Unit {0}
 Once (p ∷ ps) = ((k : PeerKey) → hits k p ≡ true → Absent k ps) × Once ps
 
 -- ---- one place
 -- a place that k uses is used by another key exactly where the two are the same
-pub hits-same : (k other : PeerKey) (p : Place) → hits k p ≡ true → hits other p ≡ sameKey k other
+hits-same : (k other : PeerKey) (p : Place) → hits k p ≡ true → hits other p ≡ sameKey k other
 hits-same k other p e = let z = and-eq-true-iff (p .used) _ .0 e in rw (z .0, keys-equal (p .key) k (z .1))
 
-pub hits-is : (k : PeerKey) (p : Place) → hits k p ≡ true → p ≡ usedBy k
+hits-is : (k : PeerKey) (p : Place) → hits k p ≡ true → p ≡ usedBy k
 hits-is k p e = let z = and-eq-true-iff (p .used) _ .0 e in λ i. record { key = keys-equal (p .key) k (z .1) i; used = z .0 i }
 
-pub free-misses : (k : PeerKey) (p : Place) → free p ≡ true → hits k p ≡ false
+free-misses : (k : PeerKey) (p : Place) → free p ≡ true → hits k p ≡ false
 free-misses k p e = by-test (p .used) (λ u. never (sym e ∙ rw u)) (λ u. rw u)
 
 -- ---- another key than the one whose entry is set shows what it showed
@@ -59,7 +50,7 @@ peer-aside k (p ∷ ps) [] i v d e = refl
 peer-aside k (p ∷ ps) (q ∷ qs) zero v d e = rw e
 peer-aside k (p ∷ ps) (q ∷ qs) (suc i) v d e = ap (pick (hits k p) (some q)) (peer-aside k ps qs i v d e)
 
-pub place-aside : (k : PeerKey) (ps : List Place) (qs : List Peer) (i : ℕ) (p d : Place) → hits k (getD ps i d) ≡ false → hits k p ≡ false
+place-aside : (k : PeerKey) (ps : List Place) (qs : List Peer) (i : ℕ) (p d : Place) → hits k (getD ps i d) ≡ false → hits k p ≡ false
     → peerOf k (set ps i p) qs ≡ peerOf k ps qs
 unfolding peerOf
 place-aside k [] qs i p d e n = refl

@@ -10,15 +10,10 @@ use Rattle.wire.specs.Bytes.{pick}
 use Rattle.peer_key.specs.Key.{sameKey}
 use Rattle.peer_key.specs.declared.PeerKey.{PeerKey}
 use Rattle.peer_key.proofs.Equality.{keys-equal, key-self}
-use Rattle.board.specs.Map.{Map, find, without, put, has}
+use Rattle.board.specs.Map.{Map, find, without, put, Apart, has}
 use Rattle.board.specs.declared.Peer.{Peer}
 use Rattle.board.proofs.Firsts.{by-test}
 use Rattle.board.proofs.Entries.{never}
-
--- no key twice
-unfoldable pub Apart : Map → Type 0
-Apart [] = Unit {0}
-Apart (e ∷ m) = (find (e .0) m ≡ none) × Apart m
 
 pub find-without : (k other : PeerKey) (m : Map) → find other (without k m) ≡ pick (sameKey k other) none (find other m)
 unfolding find without

@@ -1,6 +1,6 @@
 -- What a user of the board relies on. Assumes nothing.
 use mathlib.Core.Path.{_≡_, refl, sym, ap, _∙_}
-use Prim.Native.Nat.{ℕ, _<_}
+use Prim.Native.Nat.{ℕ, _<_, _≤_}
 use mathlib.Core.Bool.{false}
 use mathlib.Core.List.{List, []}
 use mathlib.Core.Logic.{_↔_}
@@ -19,22 +19,17 @@ use Rattle.peer_down_notification.specs.declared.PeerDownNotification.{PeerDown
 use Rattle.stats_report.specs.Grammar as Report
 use Rattle.stats_report.specs.declared.StatsReport.{StatsReport}
 use Rattle.board.specs.First.{first}
-use Rattle.board.specs.Board.{hits, free, findKey, placeFor, freePlace, usedBy, silent, heard, emptyBoard, withPeer, withEntry, answer, upOf, downOf, reportOf, lookOf, Upped, Downed, Reported, LookedUp}
-use Rattle.board.specs.Map.{Call, up, down, report, keyIn, find, boardStep, boardRun, mapRun, shownOf, callsOf, NeverFull}
+use Rattle.board.specs.Board.{hits, free, findKey, placeFor, freePlace, usedBy, silent, heard, emptyBoard, withPeer, withEntry, answer, upOf, downOf, reportOf, lookOf, Whole, Absent, used, ZeroIfFree, Upped, Downed, Reported, LookedUp}
+use Rattle.board.specs.Map.{Apart, Call, up, down, report, keyIn, find, boardStep, boardRun, mapRun, shownOf, callsOf, NeverFull}
 use Rattle.board.specs.declared.Place.{Place}
 use Rattle.board.specs.declared.Peer.{Peer}
 use Rattle.board.specs.declared.Board.{Board}
 use Rattle.board.specs.declared.Updated.{Updated}
 use Rattle.board.specs.declared.Looked.{Looked}
 use Rattle.board.proofs.Firsts.{by-test, set-found}
-use Rattle.board.proofs.Entries.{peerOf, used, Absent, peer-aside, entry-aside, other-misses, free-misses-at, absent, absent-first, same-place, room, full}
+use Rattle.board.proofs.Entries.{peerOf, peer-aside, entry-aside, other-misses, free-misses-at, absent, absent-first, same-place, used-le, room, full}
 use Rattle.board.proofs.Runs.{empty-holds, run-holds, shows-peer, by-itself, keyRun}
-use Rattle.board.proofs.Zero.{ZeroIfFree, zero-at}
-
--- a board as the type has it: 64 places, and a peer for each
-pub record Whole (b : Board) : Type 0 where
-  pub places-long : length (b .places) ≡ 64
-  pub peers-long : length (b .peers) ≡ 64
+use Rattle.board.proofs.Zero.{zero-at}
 
 -- ---- from an empty board
 -- Any calls, one after the other, are answered as a plain map of at most 64 keys answers them, and any lookup then shows what the map has.
@@ -43,6 +38,12 @@ pub as-a-map : (xs : List Call)
 as-a-map xs =
     let p = run-holds emptyBoard [] empty-holds xs in
     (p .0, λ k. shows-peer _ k (p .1 .places-long) (p .1 .peers-long) ∙ ap shownOf (p .1 .shows k))
+
+-- That map has no key twice, and never more than 64.
+pub map-is-plain : (xs : List Call) → Apart (mapRun [] xs .1) × (length (mapRun [] xs .1) ≤ 64)
+map-is-plain xs =
+    let p = run-holds emptyBoard [] empty-holds xs .1 in
+    (p .apart, let n = p .size in let l = p .places-long in let u = used-le (boardRun emptyBoard xs .1 .places) in omega arith)
 
 -- Two sequences with the same calls for one key, and no refusal for want of a place in either, show the same for it, whatever the others do.
 pub same-shown : (xs ys : List Call) (k : PeerKey) → callsOf k xs ≡ callsOf k ys

@@ -20,14 +20,14 @@ use Rattle.peer_down_notification.specs.declared.PeerDownNotification.{PeerDown
 use Rattle.stats_report.specs.Grammar as Report
 use Rattle.stats_report.specs.declared.StatsReport.{StatsReport}
 use Rattle.board.specs.First.{first}
-use Rattle.board.specs.Board.{hits, free, freePlace, usedBy, silent, heard, emptyBoard, withPeer, withEntry, upOf, downOf, reportOf, lookOf}
-use Rattle.board.specs.Map.{Map, find, without, put, has, Call, up, down, report, keyIn, mapStep, mapReported, boardStep, shownOf, mapRun, boardRun, callsOf, NeverFull}
+use Rattle.board.specs.Board.{hits, free, used, Absent, freePlace, usedBy, silent, heard, emptyBoard, withPeer, withEntry, upOf, downOf, reportOf, lookOf}
+use Rattle.board.specs.Map.{Map, find, without, put, Apart, has, Call, up, down, report, keyIn, mapStep, mapReported, boardStep, shownOf, mapRun, boardRun, callsOf, NeverFull}
 use Rattle.board.specs.declared.Place.{Place}
 use Rattle.board.specs.declared.Peer.{Peer}
 use Rattle.board.specs.declared.Board.{Board}
 use Rattle.board.proofs.Firsts.{by-test}
-use Rattle.board.proofs.Entries.{never, peerOf, used, Absent, Once, peer-aside, entry-aside, other-misses, free-misses-at, absent, absent-shows, present-shows, set-shows, same-place, new-shows, gone-absent, new-once, gone-once, room, full, new-used, gone-used}
-use Rattle.board.proofs.Maps.{Apart, find-without, find-put, length-without, length-new, apart-put, apart-without, not-there}
+use Rattle.board.proofs.Entries.{never, peerOf, Once, peer-aside, entry-aside, other-misses, free-misses-at, absent, absent-shows, present-shows, set-shows, same-place, new-shows, gone-absent, new-once, gone-once, room, full, new-used, gone-used}
+use Rattle.board.proofs.Maps.{find-without, find-put, length-without, length-new, apart-put, apart-without, not-there}
 
 -- the board holds what the map does
 pub record Holds (b : Board) (m : Map) : Type 0 where

@@ -1,8 +1,8 @@
 -- On a board that began empty, nothing of a peer that went stays: what no peer uses is all zero. Assumes nothing.
 use mathlib.Core.Path.{_≡_, refl, sym, _∙_}
 use native.Mathlib.Omega.{arith}
-use Prim.Native.Nat.{ℕ, zero, suc, _<_}
-use mathlib.Core.Bool.{true, false, and-eq-true-iff}
+use Prim.Native.Nat.{ℕ, zero, suc}
+use mathlib.Core.Bool.{true, and-eq-true-iff}
 use mathlib.Core.List.{List, [], _∷_}
 use borrow.Author.Tests.{ltb-true}
 use lib.Dec.{ltb}
@@ -12,7 +12,7 @@ use Rattle.peer_key.specs.declared.PeerKey.{PeerKey}
 use Rattle.stats_report.specs.Grammar as Report
 use Rattle.stats_report.specs.declared.StatsReport.{StatsReport}
 use Rattle.board.specs.First.{first}
-use Rattle.board.specs.Board.{hits, placeFor, freePlace, usedBy, silent, heard, emptyBoard, upOf, downOf, reportOf}
+use Rattle.board.specs.Board.{hits, placeFor, freePlace, usedBy, silent, heard, emptyBoard, upOf, downOf, reportOf, ZeroIfFree}
 use Rattle.board.specs.Map.{Map, Call, up, down, report, mapStep, boardStep, boardRun}
 use Rattle.board.specs.declared.Place.{Place}
 use Rattle.board.specs.declared.Peer.{Peer}
@@ -20,10 +20,6 @@ use Rattle.board.specs.declared.Board.{Board}
 use Rattle.board.proofs.Firsts.{by-test, found-passes}
 use Rattle.board.proofs.Entries.{never}
 use Rattle.board.proofs.Runs.{Holds, step-holds, empty-holds}
-
--- an entry that no peer uses is all zero
-abbrev pub ZeroIfFree : Place → Peer → Type 0
-ZeroIfFree p q = p .used ≡ false → (p ≡ freePlace) × (q ≡ silent)
 
 unfoldable AllZero : List Place → List Peer → Type 0
 AllZero [] qs = Unit {0}
@@ -83,10 +79,10 @@ run-zero : (b : Board) (m : Map) → Holds b m → AllZero (b .places) (b .peers
 run-zero b m s z [] = z
 run-zero b m s z (x ∷ xs) = run-zero (boardStep b x .board) (mapStep m x .1) (step-holds b m s x .1) (step-zero b m s z x) xs
 
-none-used : (n : ℕ) → AllZero (replicate n freePlace) (replicate n silent)
+empty-zero : (n : ℕ) → AllZero (replicate n freePlace) (replicate n silent)
 unfolding AllZero
-none-used zero = tt
-none-used (suc n) = ((λ e. (refl, refl)), none-used n)
+empty-zero zero = tt
+empty-zero (suc n) = ((λ e. (refl, refl)), empty-zero n)
 
 at-place : (ps : List Place) (qs : List Peer) (i : ℕ) → AllZero ps qs → length ps ≡ length qs → ZeroIfFree (getD ps i freePlace) (getD qs i silent)
 unfolding AllZero
@@ -100,4 +96,4 @@ pub zero-at : (xs : List Call) (i : ℕ) → length (boardRun emptyBoard xs .1 .
     → ZeroIfFree (getD (boardRun emptyBoard xs .1 .places) i freePlace) (getD (boardRun emptyBoard xs .1 .peers) i silent)
 unfolding emptyBoard
 zero-at xs i l =
-    at-place (boardRun emptyBoard xs .1 .places) (boardRun emptyBoard xs .1 .peers) i (run-zero emptyBoard [] empty-holds (none-used 64) xs) l
+    at-place (boardRun emptyBoard xs .1 .places) (boardRun emptyBoard xs .1 .peers) i (run-zero emptyBoard [] empty-holds (empty-zero 64) xs) l

@@ -1,10 +1,10 @@
 -- What each call answers and makes of a board, whatever board it is given: one that holds a key twice goes by the first.
-use Prim.Native.Nat.{ℕ}
+use Prim.Native.Nat.{ℕ, suc}
 use mathlib.Core.Bool.{Bool, true, false, not, _&&_}
-use mathlib.Core.List.{List}
+use mathlib.Core.List.{List, [], _∷_}
 use mathlib.Core.Path.{_≡_}
 use lib.Dec.{ltb}
-use lib.ListN.{getD, set, replicate}
+use lib.ListN.{length, getD, set, replicate}
 use Rattle.wire.specs.Bytes.{pick}
 use Rattle.wire.specs.Number as Number
 use Rattle.models.specs.declared.Afi.the-variants.{Ipv4}
@@ -24,11 +24,11 @@ use Rattle.board.specs.declared.Board.{Board}
 use Rattle.board.specs.declared.Updated.{Updated}
 use Rattle.board.specs.declared.Looked.{Looked}
 
-abbrev pub places : ℕ
-places = 64
+abbrev pub peerPlaces : ℕ
+peerPlaces = 64
 
 -- ---- entries: a place and what is known of its peer
-abbrev pub zeroKey : PeerKey
+abbrev zeroKey : PeerKey
 zeroKey =
     record {
       «peer_distinguisher» = record { 0 = 0 };
@@ -53,7 +53,7 @@ abbrev pub heard : Peer → StatsReport → Peer
 heard peer r = record { report = keptReport r; reported = true }
 
 unfoldable pub emptyBoard : Board
-emptyBoard = record { places = replicate places freePlace; peers = replicate places silent }
+emptyBoard = record { places = replicate peerPlaces freePlace; peers = replicate peerPlaces silent }
 
 -- ---- where a key stands
 abbrev pub hits : PeerKey → Place → Bool
@@ -72,11 +72,11 @@ findFree ps = first free ps
 
 -- where a key that comes up stands: where it stood, or else at the lowest free place
 abbrev pub placeFor : List Place → PeerKey → ℕ
-placeFor ps k = pick (ltb (findKey ps k) places) (findKey ps k) (findFree ps)
+placeFor ps k = pick (ltb (findKey ps k) peerPlaces) (findKey ps k) (findFree ps)
 
 -- the number of a call that found a place, or why there is none
 abbrev pub numberAt : ℕ → ℕ → ℕ
-numberAt i refusal = pick (ltb i places) Number.Good refusal
+numberAt i refusal = pick (ltb i peerPlaces) Number.Good refusal
 
 -- a report is refused for its count before its peer is looked for
 abbrev pub reportNumber : ℕ → ℕ → ℕ
@@ -96,20 +96,20 @@ answer n b = record { number = n; board = b }
 unfoldable pub upOf : Board → PeerKey → Updated
 upOf b k =
     let i : ℕ = placeFor (b .places) k in
-    pick (ltb i places) (answer Number.Good (withEntry b i (usedBy k) silent)) (answer Number.BoardFull b)
+    pick (ltb i peerPlaces) (answer Number.Good (withEntry b i (usedBy k) silent)) (answer Number.BoardFull b)
 
 -- a Peer Down removes it, and leaves an all-zero entry
 unfoldable pub downOf : Board → PeerKey → Updated
 downOf b k =
     let i : ℕ = findKey (b .places) k in
-    pick (ltb i places) (answer Number.Good (withEntry b i freePlace silent)) (answer Number.NoPeer b)
+    pick (ltb i peerPlaces) (answer Number.Good (withEntry b i freePlace silent)) (answer Number.NoPeer b)
 
 -- a Statistics Report is the last one from now on
 unfoldable pub reportOf : Board → PeerKey → StatsReport → Updated
 reportOf b k r =
     let i : ℕ = findKey (b .places) k in
     pick (ltb Report.places (r .count)) (answer Number.BadField b)
-    (pick (ltb i places) (answer Number.Good (withPeer b i (heard (getD (b .peers) i silent) r))) (answer Number.NoPeer b))
+    (pick (ltb i peerPlaces) (answer Number.Good (withPeer b i (heard (getD (b .peers) i silent) r))) (answer Number.NoPeer b))
 
 -- a lookup: the peer that the key stands for
 abbrev pub looked : ℕ → Peer → Looked
@@ -118,7 +118,27 @@ looked n q = record { number = n; peer = q }
 unfoldable pub lookOf : Board → PeerKey → Looked
 lookOf b k =
     let i : ℕ = findKey (b .places) k in
-    pick (ltb i places) (looked Number.Good (getD (b .peers) i silent)) (looked Number.NoPeer silent)
+    pick (ltb i peerPlaces) (looked Number.Good (getD (b .peers) i silent)) (looked Number.NoPeer silent)
+
+-- ---- what the promises speak of
+-- a board as the type has it: 64 places, and a peer for each
+pub record Whole (b : Board) : Type 0 where
+  pub places-long : length (b .places) ≡ peerPlaces
+  pub peers-long : length (b .peers) ≡ peerPlaces
+
+-- no place is the key's
+unfoldable pub Absent : PeerKey → List Place → Type 0
+Absent k [] = Unit {0}
+Absent k (p ∷ ps) = (hits k p ≡ false) × Absent k ps
+
+-- how many places are used
+unfoldable pub used : List Place → ℕ
+used [] = 0
+used (p ∷ ps) = pick (p .used) (suc (used ps)) (used ps)
+
+-- an entry that no peer uses is all zero
+abbrev pub ZeroIfFree : Place → Peer → Type 0
+ZeroIfFree p q = p .used ≡ false → (p ≡ freePlace) × (q ≡ silent)
 
 -- ---- the contracts: the number and the board after a call, by the header alone and, of a report, its counters
 abbrev pub Upped : Board → BmpPerPeerHeader → PeerUpNotification → ℕ → Board → Type 0

@@ -16,7 +16,7 @@ use Rattle.peer_up_notification.specs.declared.PeerUpNotification.{PeerUpNotifi
 use Rattle.peer_down_notification.specs.declared.PeerDownNotification.{PeerDownNotification}
 use Rattle.stats_report.specs.Grammar as Report
 use Rattle.stats_report.specs.declared.StatsReport.{StatsReport}
-use Rattle.board.specs.Board.{places, silent, heard, looked, upOf, downOf, reportOf}
+use Rattle.board.specs.Board.{peerPlaces, silent, heard, looked, upOf, downOf, reportOf}
 use Rattle.board.specs.declared.Peer.{Peer}
 use Rattle.board.specs.declared.Board.{Board}
 use Rattle.board.specs.declared.Updated.{Updated}
@@ -36,6 +36,11 @@ without k (e ∷ m) = pick (sameKey (e .0) k) (without k m) (e ∷ without k m)
 
 abbrev pub put : PeerKey → Peer → Map → Map
 put k q m = (k, q) ∷ without k m
+
+-- no key twice
+unfoldable pub Apart : Map → Type 0
+Apart [] = Unit {0}
+Apart (e ∷ m) = (find (e .0) m ≡ none) × Apart m
 
 abbrev pub has : Option Peer → Bool
 has none = false
@@ -61,7 +66,7 @@ mapReported k r m (some q) = (Number.Good, put k (heard q r) m)
 abbrev pub mapStep : Map → Call → ℕ × Map
 mapStep m (up h x) =
     pick (has (find (keyOf h) m)) (Number.Good, put (keyOf h) silent m)
-    (pick (ltb (length m) places) (Number.Good, put (keyOf h) silent m) (Number.BoardFull, m))
+    (pick (ltb (length m) peerPlaces) (Number.Good, put (keyOf h) silent m) (Number.BoardFull, m))
 mapStep m (down h x) = pick (has (find (keyOf h) m)) (Number.Good, without (keyOf h) m) (Number.NoPeer, m)
 mapStep m (report h r) =
     pick (ltb Report.places (r .count)) (Number.BadField, m) (mapReported (keyOf h) r m (find (keyOf h) m))

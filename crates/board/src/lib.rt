@@ -1,5 +1,6 @@
-// A board of up to 64 peers, each under its whole key with its last report. The functions here take the board by value and hand the new
-// one back; those of `lent_board` bring a lent board up to date in place by them.
+// A board of up to 64 peers, each under its whole key with its last report, by value.
+//
+// The functions hand a new board back; those of `lent_board` bring a lent one up to date in place by them.
 use kept_report::KeptReport;
 use models::Afi;
 use models::BgpIdentifier;

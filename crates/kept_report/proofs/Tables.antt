@@ -17,11 +17,8 @@ use Rattle.stats_report.specs.declared.StatCounter.{StatCounter}
 use Rattle.stats_report.specs.declared.StatsReport.{StatsReport}
 use Rattle.stats_report.proofs.StatsReport as S
 use Rattle.stats_report.proofs.StatsReport.Laws as S′
-use Rattle.kept_report.specs.Kept.{keptCounter, counterOf, table, tableCount}
+use Rattle.kept_report.specs.Kept.{keptCounter, noCounter, table, tableCount}
 use Rattle.kept_report.specs.declared.KeptCounter.{KeptCounter}
-
-abbrev zero-counter : KeptCounter
-zero-counter = counterOf 0 0 0 0 0
 
 -- one more at the end
 snoc : (l : List StatCounter) (c : StatCounter) (e : List KeptCounter) → map keptCounter (l ++ (c ∷ [])) ++ e ≡ map keptCounter l ++ (keptCounter c ∷ e)
@@ -36,9 +33,9 @@ more : (l : List StatCounter) (c : StatCounter) → length l < places → set (t
 unfolding table
 more l c h =
     let room : places - length l ≡ suc (places - length (l ++ (c ∷ []))) = let z = length-snoc l c in omega arith in
-    ap (λ (n : ℕ). set (map keptCounter l ++ replicate n zero-counter) (length l) (keptCounter c)) room
-    ∙ set-at (map keptCounter l) zero-counter (replicate (places - length (l ++ (c ∷ []))) zero-counter) (keptCounter c) (length l) (length-map l keptCounter)
-    ∙ sym (snoc l c (replicate (places - length (l ++ (c ∷ []))) zero-counter))
+    ap (λ (n : ℕ). set (map keptCounter l ++ replicate n noCounter) (length l) (keptCounter c)) room
+    ∙ set-at (map keptCounter l) noCounter (replicate (places - length (l ++ (c ∷ []))) noCounter) (keptCounter c) (length l) (length-map l keptCounter)
+    ∙ sym (snoc l c (replicate (places - length (l ++ (c ∷ []))) noCounter))
 
 pub turn : (t : List StatCounter) (i : ℕ) (d : StatCounter) → i < length t → i < places → set (table (take i t)) i (keptCounter (getD t i d)) ≡ table (take (i + 1) t)
 turn t i d h room =
@@ -46,7 +43,7 @@ turn t i d h room =
     let m = more (take i t) (getD t i d) (omega arith) in
     ap (λ (n : ℕ). set (table (take i t)) n (keptCounter (getD t i d))) (sym l) ∙ m ∙ rw (add-one, take-suc t i d h)
 
-pub begins : (t : List StatCounter) → table (take 0 t) ≡ replicate places zero-counter
+pub begins : (t : List StatCounter) → table (take 0 t) ≡ replicate places noCounter
 unfolding table
 begins t = refl
 

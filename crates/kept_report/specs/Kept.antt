@@ -20,6 +20,9 @@ use Rattle.kept_report.specs.declared.KeptReport.{KeptReport}
 abbrev pub counterOf : ℕ → ℕ → ℕ → ℕ → ℕ → KeptCounter
 counterOf kind size afi safi value = record { kind = kind; «stat_len» = size; afi = afi; safi = safi; value = value }
 
+abbrev pub noCounter : KeptCounter
+noCounter = counterOf 0 0 0 0 0
+
 -- whether the length says that the value is raw (docs/RULES.md, "Statistics")
 abbrev pub isRaw : StatsData → Bool
 isRaw (Counter n) = false
@@ -35,7 +38,7 @@ keptCounter c =
 
 -- the kept ones in order, and the entries past them zero
 unfoldable pub table : List StatCounter → List KeptCounter
-table counters = map keptCounter counters ++ replicate (places - length counters) (counterOf 0 0 0 0 0)
+table counters = map keptCounter counters ++ replicate (places - length counters) noCounter
 
 abbrev pub tableCount : ℕ → ℕ
 tableCount count = pick (ltb places count) places count
@@ -45,7 +48,7 @@ unfoldable pub keptReport : StatsReport → KeptReport
 keptReport r = record { counters = table (take (tableCount (r .count)) (r .counters)); count = tableCount (r .count) }
 
 unfoldable pub noReport : KeptReport
-noReport = record { counters = replicate places (counterOf 0 0 0 0 0); count = 0 }
+noReport = record { counters = replicate places noCounter; count = 0 }
 
 -- the data of a report's counter, where the bytes of a raw value are gone
 abbrev pub withoutView : StatsData → KeptData

@@ -1,5 +1,7 @@
-// The board of `board`, lent. Each function hands a copy of the board behind the reference to the one that takes it by value, and a
-// call that changes the board stores the new one back.
+// The board of `board`, lent and brought up to date in place.
+//
+// Each function hands a copy of the board behind the reference to the one that takes it by value, and a call that changes the board
+// stores the new one back.
 use board::Board;
 use board::Looked;
 use peer_down_notification::PeerDownNotification;

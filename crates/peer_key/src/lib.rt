@@ -1,5 +1,6 @@
-// Which peer a message speaks of: the whole key of a peer, made of a per-peer header (RFC 7854, section 4.2). Two customers may use one
-// private address, and then the distinguisher alone tells their peers apart.
+// Which peer a message speaks of: the whole key of a peer, made of a per-peer header (RFC 7854, section 4.2).
+//
+// Two customers may use one private address, and then the distinguisher alone tells their peers apart.
 use models::Afi;
 use models::BgpIdentifier;
 use models::IpAddr;

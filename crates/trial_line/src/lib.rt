@@ -164,7 +164,7 @@ fn reader_of(text: &[u8]) -> FoundReader
     FoundReader::Reader(trial_forms::kind_at(i))
 }
 
-// The place of a text among words, of which the number is the answer where it is none of them. Each stands in 14 bytes, with spaces behind it.
+// The place of a text among all the words, as `word_in` has it.
 pub fn place_among(words: &[u8], text: &[u8]) -> usize
     ensures { λ r. ⌜ r ≡ wordIn (length (now (words .entry)) / 14) (now (words .entry)) (now (text .entry)) ⌝ }
 {

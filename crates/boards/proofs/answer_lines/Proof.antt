@@ -1,3 +1,4 @@
+-- `boards::answer_lines` is safe and ends: at the loop's head each lent buffer has its length.
 use borrow.Author.Needs.{needs}
 use mathlib.Core.Path.{_≡_}
 use Prim.Native.Nat.{_-_, _≤_}

@@ -1,3 +1,4 @@
+-- `boards::print_peers` is safe and ends: at the loop's head `i` is at most 64, and the output has its length.
 use borrow.Author.Needs.{needs}
 use mathlib.Core.Path.{_≡_}
 use Prim.Native.Nat.{_-_, _≤_}

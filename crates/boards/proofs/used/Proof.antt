@@ -1,3 +1,4 @@
+-- `boards::used` is safe and ends: at the loop's head `i` is at most 64.
 use borrow.Author.Needs.{needs}
 use Prim.Native.Nat.{_-_, _≤_}
 use Rattle.boards.proofs.used.Statement.{statement}
