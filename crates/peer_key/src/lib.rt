@@ -44,10 +44,14 @@ impl PeerKey {
     pub fn equals(self, other: PeerKey) -> bool
         ensures { λ r. ⌜ r ≡ sameKey self other ⌝ }
     {
-        if self.peer_distinguisher.0 != other.peer_distinguisher.0 {
+        let peer_distinguisher = self.peer_distinguisher;
+        let other_distinguisher = other.peer_distinguisher;
+        if peer_distinguisher.0 != other_distinguisher.0 {
             return false;
         }
-        if self.peer_bgp_id.0 != other.peer_bgp_id.0 {
+        let peer_bgp_id = self.peer_bgp_id;
+        let other_bgp_id = other.peer_bgp_id;
+        if peer_bgp_id.0 != other_bgp_id.0 {
             return false;
         }
         let peer_type = self.peer_type;
