@@ -1,5 +1,6 @@
 // The types of statistics (RFC 7854, section 4.8; 14 to 17 RFC 8671, section 6.2; from 18 on the registry of IANA).
 ghost use mathlib.Core.Path.{_≡_};
+ghost use Prim.Native.Nat.{_≤_};
 ghost use Rattle.stats_type.specs.Shown.{typeOf, kindOf};
 
 pub enum StatType {
@@ -52,6 +53,19 @@ pub enum StatType {
 pub fn type_of(kind: u16) -> StatType
     ensures { λ r. ⌜ r ≡ typeOf kind ⌝ }
 {
+    // 24 and 25, the gap between the two ranges, have no name.
+    match kind {
+        0..=23 => type_below_gap(kind),
+        26..=43 => type_above_gap(kind),
+        _ => StatType::Other(kind),
+    }
+}
+
+// The names up to the gap: what is left for the last arm is 23.
+fn type_below_gap(kind: u16) -> StatType
+    requires { ⌜ kind ≤ 23 ⌝ }
+    ensures { λ r. ⌜ r ≡ typeOf kind ⌝ }
+{
     match kind {
         0 => StatType::PrefixesRejectedByInboundPolicy,
         1 => StatType::DuplicatePrefixAdvertisements,
@@ -76,7 +90,17 @@ pub fn type_of(kind: u16) -> StatType
         20 => StatType::RoutesInPostPolicyAdjRibIn,
         21 => StatType::RoutesInPerAfiSafiPostPolicyAdjRibIn,
         22 => StatType::RoutesInPerAfiSafiPrePolicyAdjRibInRejectedByPolicy,
-        23 => StatType::RoutesInPerAfiSafiPostPolicyAdjRibInAcceptedByPolicy,
+        _ => StatType::RoutesInPerAfiSafiPostPolicyAdjRibInAcceptedByPolicy,
+    }
+}
+
+// The names from the gap on: what is left for the last arm is 43.
+fn type_above_gap(kind: u16) -> StatType
+    requires { ⌜ 26 ≤ kind ⌝ }
+    requires { ⌜ kind ≤ 43 ⌝ }
+    ensures { λ r. ⌜ r ≡ typeOf kind ⌝ }
+{
+    match kind {
         26 => StatType::RoutesInPerAfiSafiPostPolicyAdjRibInOrLocRibSuppressed,
         27 => StatType::RoutesInPerAfiSafiPostPolicyAdjRibInOrLocRibStaleByGracefulRestart,
         28 => StatType::RoutesInPerAfiSafiPostPolicyAdjRibInOrLocRibStaleByLongLivedGracefulRestart,
@@ -94,8 +118,7 @@ pub fn type_of(kind: u16) -> StatType
         40 => StatType::RoutesInPerAfiSafiPrePolicyAdjRibOutFilteredDueToMaxAsPathLength,
         41 => StatType::RoutesInPerAfiSafiPostPolicyAdjRibOutInvalidatedByRoa,
         42 => StatType::RoutesInPerAfiSafiPostPolicyAdjRibOutValidatedByRoa,
-        43 => StatType::RoutesInPerAfiSafiPostPolicyAdjRibOutRpkiStateNotFound,
-        _ => StatType::Other(kind),
+        _ => StatType::RoutesInPerAfiSafiPostPolicyAdjRibOutRpkiStateNotFound,
     }
 }
 

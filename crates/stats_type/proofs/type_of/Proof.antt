@@ -1,226 +1,35 @@
+use native.Mathlib.Omega.{arith}
+use borrow.Author.Needs.{needs}
 use mathlib.Core.Path.{sym}
-use Rattle.stats_type.specs.Shown.{names, typeOf}
-use Rattle.wire.proofs.Arms.{no-arm}
+use Rattle.stats_type.proofs.Gap.{in-gap, above-both}
 use Rattle.stats_type.proofs.type_of.Statement.{statement}
 use Rattle.stats_type.proofs.type_of.Tie as tie
-use Rattle.stats_type.specs.declared.StatType.the-variants.{Other}
+
+type-below-gap-requires : tie.Need-type-below-gap-requires
+type-below-gap-requires c κs = search needs
+
+type-above-gap-requires : tie.Need-type-above-gap-requires
+type-above-gap-requires c κs = search needs
 
 returns : tie.Need-returns
-unfolding typeOf names
-returns c = rw (c .match .keys1)
+returns c = search needs
 
 returns-2 : tie.Need-returns-2
-unfolding typeOf names
-returns-2 c = rw (c .match .keys2)
+returns-2 c = search needs
 
 returns-3 : tie.Need-returns-3
-unfolding typeOf names
-returns-3 c = rw (c .match .keys3)
+returns-3 c = sym (in-gap (c .before .before .args .kind) (omega arith) (omega arith))
 
 returns-4 : tie.Need-returns-4
-unfolding typeOf names
-returns-4 c = rw (c .match .keys4)
-
-returns-5 : tie.Need-returns-5
-unfolding typeOf names
-returns-5 c = rw (c .match .keys5)
-
-returns-6 : tie.Need-returns-6
-unfolding typeOf names
-returns-6 c = rw (c .match .keys6)
-
-returns-7 : tie.Need-returns-7
-unfolding typeOf names
-returns-7 c = rw (c .match .keys7)
-
-returns-8 : tie.Need-returns-8
-unfolding typeOf names
-returns-8 c = rw (c .match .keys8)
-
-returns-9 : tie.Need-returns-9
-unfolding typeOf names
-returns-9 c = rw (c .match .keys9)
-
-returns-10 : tie.Need-returns-10
-unfolding typeOf names
-returns-10 c = rw (c .match .keys10)
-
-returns-11 : tie.Need-returns-11
-unfolding typeOf names
-returns-11 c = rw (c .match .keys11)
-
-returns-12 : tie.Need-returns-12
-unfolding typeOf names
-returns-12 c = rw (c .match .keys12)
-
-returns-13 : tie.Need-returns-13
-unfolding typeOf names
-returns-13 c = rw (c .match .keys13)
-
-returns-14 : tie.Need-returns-14
-unfolding typeOf names
-returns-14 c = rw (c .match .keys14)
-
-returns-15 : tie.Need-returns-15
-unfolding typeOf names
-returns-15 c = rw (c .match .keys15)
-
-returns-16 : tie.Need-returns-16
-unfolding typeOf names
-returns-16 c = rw (c .match .keys16)
-
-returns-17 : tie.Need-returns-17
-unfolding typeOf names
-returns-17 c = rw (c .match .keys17)
-
-returns-18 : tie.Need-returns-18
-unfolding typeOf names
-returns-18 c = rw (c .match .keys18)
-
-returns-19 : tie.Need-returns-19
-unfolding typeOf names
-returns-19 c = rw (c .match .keys19)
-
-returns-20 : tie.Need-returns-20
-unfolding typeOf names
-returns-20 c = rw (c .match .keys20)
-
-returns-21 : tie.Need-returns-21
-unfolding typeOf names
-returns-21 c = rw (c .match .keys21)
-
-returns-22 : tie.Need-returns-22
-unfolding typeOf names
-returns-22 c = rw (c .match .keys22)
-
-returns-23 : tie.Need-returns-23
-unfolding typeOf names
-returns-23 c = rw (c .match .keys23)
-
-returns-24 : tie.Need-returns-24
-unfolding typeOf names
-returns-24 c = rw (c .match .keys24)
-
-returns-25 : tie.Need-returns-25
-unfolding typeOf names
-returns-25 c = rw (c .match .keys25)
-
-returns-26 : tie.Need-returns-26
-unfolding typeOf names
-returns-26 c = rw (c .match .keys26)
-
-returns-27 : tie.Need-returns-27
-unfolding typeOf names
-returns-27 c = rw (c .match .keys27)
-
-returns-28 : tie.Need-returns-28
-unfolding typeOf names
-returns-28 c = rw (c .match .keys28)
-
-returns-29 : tie.Need-returns-29
-unfolding typeOf names
-returns-29 c = rw (c .match .keys29)
-
-returns-30 : tie.Need-returns-30
-unfolding typeOf names
-returns-30 c = rw (c .match .keys30)
-
-returns-31 : tie.Need-returns-31
-unfolding typeOf names
-returns-31 c = rw (c .match .keys31)
-
-returns-32 : tie.Need-returns-32
-unfolding typeOf names
-returns-32 c = rw (c .match .keys32)
-
-returns-33 : tie.Need-returns-33
-unfolding typeOf names
-returns-33 c = rw (c .match .keys33)
-
-returns-34 : tie.Need-returns-34
-unfolding typeOf names
-returns-34 c = rw (c .match .keys34)
-
-returns-35 : tie.Need-returns-35
-unfolding typeOf names
-returns-35 c = rw (c .match .keys35)
-
-returns-36 : tie.Need-returns-36
-unfolding typeOf names
-returns-36 c = rw (c .match .keys36)
-
-returns-37 : tie.Need-returns-37
-unfolding typeOf names
-returns-37 c = rw (c .match .keys37)
-
-returns-38 : tie.Need-returns-38
-unfolding typeOf names
-returns-38 c = rw (c .match .keys38)
-
-returns-39 : tie.Need-returns-39
-unfolding typeOf names
-returns-39 c = rw (c .match .keys39)
-
-returns-40 : tie.Need-returns-40
-unfolding typeOf names
-returns-40 c = rw (c .match .keys40)
-
-returns-41 : tie.Need-returns-41
-unfolding typeOf names
-returns-41 c = rw (c .match .keys41)
-
-returns-42 : tie.Need-returns-42
-unfolding typeOf names
-returns-42 c = rw (c .match .keys42)
-
-returns-43 : tie.Need-returns-43
-unfolding typeOf names
-returns-43 c = sym (no-arm (c .before .args .kind) (Other (c .before .args .kind)) (Unit {0}) names (c .match .rest))
+returns-4 c = sym (above-both (c .before .before .before .args .kind) (omega arith))
 
 pub type-of-spec : {M : Type 1} → statement M
 type-of-spec =
     tie.close
     (tie.spec
+    type-below-gap-requires
+    type-above-gap-requires
     returns
     returns-2
     returns-3
-    returns-4
-    returns-5
-    returns-6
-    returns-7
-    returns-8
-    returns-9
-    returns-10
-    returns-11
-    returns-12
-    returns-13
-    returns-14
-    returns-15
-    returns-16
-    returns-17
-    returns-18
-    returns-19
-    returns-20
-    returns-21
-    returns-22
-    returns-23
-    returns-24
-    returns-25
-    returns-26
-    returns-27
-    returns-28
-    returns-29
-    returns-30
-    returns-31
-    returns-32
-    returns-33
-    returns-34
-    returns-35
-    returns-36
-    returns-37
-    returns-38
-    returns-39
-    returns-40
-    returns-41
-    returns-42
-    returns-43)
+    returns-4)
