@@ -35,15 +35,16 @@ outside n d out (x ∷ l) t = go (inRange (x .0)) refl (eqb n (x .0)) refl (outs
         absurd (omega arith)
     go false h b k i t = let z : _≡_ {A = ℕ} 0 1 = cc in absurd (omega arith)
 
-pub in-gap : (n : ℕ) → 23 < n → n < 26 → typeOf n ≡ Other n
+-- nor a name
+no-name : (n : ℕ) → inRange n ≡ false → typeOf n ≡ Other n
 unfolding typeOf names
-in-gap n a b = let out : inRange n ≡ false = rw (lt-leb n 23 a, lt-leb 26 n b) in outside n (Other n) out names refl
+no-name n out = outside n (Other n) out names refl
+
+pub in-gap : (n : ℕ) → 23 < n → n < 26 → typeOf n ≡ Other n
+in-gap n a b = no-name n (rw (lt-leb n 23 a, lt-leb 26 n b))
 
 pub above-both : (n : ℕ) → 43 < n → typeOf n ≡ Other n
-unfolding typeOf names
-above-both n a =
-    let out : inRange n ≡ false = rw (lt-leb n 23 (omega arith), le-leb 26 n (omega arith), lt-leb n 43 a) in
-    outside n (Other n) out names refl
+above-both n a = no-name n (rw (lt-leb n 23 (omega arith), le-leb 26 n (omega arith), lt-leb n 43 a))
 
 -- m arms, numbered from k on
 abbrev arms : ℕ → ℕ → List (ℕ × Unit {0})
