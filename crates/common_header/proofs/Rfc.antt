@@ -2,6 +2,7 @@
 use mathlib.Core.Path.{_≡_, refl}
 use mathlib.Core.List.{List, _++_}
 use Prim.Native.Nat.{ℕ, _≤_}
+use native.Mathlib.Omega.{arith}
 use lib.ListN.{length}
 use Rattle.wire.specs.Number as Number
 use Rattle.wire.specs.Bytes.{be, Bytes}
@@ -15,7 +16,11 @@ use Rattle.common_header.proofs.Promises.{complete}
 
 pub reading-good : (m : Message) → Conforms m → (rest : List ℕ) → Bytes rest → Good (reading m rest)
 reading-good m c rest rest-bytes =
-    record { version-is = refl; length-fits = c .length-fits; kind-known = c .type-known; tail-bytes = bytes-append (c .body-bytes) rest-bytes }
+    record {
+      any-type =
+          record { version-is = refl; length-fits = c .length-fits; kind-fits = omega (arith, c .type-known); tail-bytes = bytes-append (c .body-bytes) rest-bytes };
+      kind-known = c .type-known;
+    }
 
 pub reading-joined : (m : Message) (rest : List ℕ) → join (reading m rest) ≡ bytes m ++ rest
 unfolding be

@@ -3,7 +3,7 @@
 --     version   1 byte    3
 --     length    4 bytes   of the whole message, this header included; any number is good here
 --     type      1 byte    0 Route Monitoring, 1 Statistics Report, 2 Peer Down, 3 Peer Up, 4 Initiation, 5 Termination,
---                         6 Route Mirroring
+--                         6 Route Mirroring; others are not known
 --     tail                what follows the header
 use Prim.Native.Nat.{ℕ, _^_, _≤_, _<_}
 use mathlib.Core.Path.{_≡_}
@@ -20,21 +20,33 @@ pub record Reading : Type 0 where
 abbrev pub join : Reading → List ℕ
 join r = be 1 (r .version) ++ (be 4 (r .length) ++ (be 1 (r .kind) ++ r .tail))
 
-pub record Good (r : Reading) : Type 0 where
+-- a header of any type
+pub record AnyType (r : Reading) : Type 0 where
   pub version-is : r .version ≡ 3
   pub length-fits : r .length < 256 ^ 4
-  pub kind-known : r .kind ≤ 6
+  pub kind-fits : r .kind < 256
   pub tail-bytes : Bytes (r .tail)
 
--- the grammar; there is no table, and nothing is skipped
-abbrev pub grammar : Grammar
-grammar =
+-- a header of a known type
+pub record Good (r : Reading) : Type 0 where
+  pub any-type : AnyType r
+  pub kind-known : r .kind ≤ 6
+
+-- a grammar of such headers; there is no table, and nothing is skipped
+abbrev pub grammarOf : (Reading → Type 0) → Grammar
+grammarOf G =
     record {
       Reading = Reading;
       join = join;
-      Good = Good;
+      Good = G;
       Fits = noTable;
       Skipped = Nothing;
       skipped = skipsNothing;
       tail = λ r. r .tail;
     }
+
+abbrev pub anyType : Grammar
+anyType = grammarOf AnyType
+
+abbrev pub grammar : Grammar
+grammar = grammarOf Good

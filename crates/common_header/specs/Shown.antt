@@ -5,6 +5,8 @@ use lib.ListN.{getD}
 use Rattle.wire.specs.Refusal.{noRefusal}
 use Rattle.wire.specs.declared.Refusal.{Refusal}
 use Rattle.common_header.specs.Grammar.{Reading}
+use Rattle.common_header.specs.Fields.{fieldsOf}
+use Rattle.common_header.specs.declared.CommonFields.{CommonFields}
 use Rattle.common_header.specs.declared.BmpMsgType.{BmpMsgType}
 use Rattle.common_header.specs.declared.BmpMsgType.the-variants.{RouteMonitoring, StatisticsReport, PeerDownNotification, PeerUpNotification, InitiationMessage, TerminationMessage, RouteMirroringMessage}
 use Rattle.common_header.specs.declared.BmpCommonHeader.{BmpCommonHeader}
@@ -27,9 +29,19 @@ kindOf InitiationMessage = 4
 kindOf TerminationMessage = 5
 kindOf RouteMirroringMessage = 6
 
+-- fields with the name of their type, and back
+abbrev pub named : CommonFields → BmpCommonHeader
+named f = record { version = f .version; «msg_len» = f .«msg_len»; «msg_type» = typeOf (f .kind) }
+
+abbrev pub numbered : BmpCommonHeader → CommonFields
+numbered h = record { version = h .version; «msg_len» = h .«msg_len»; kind = kindOf (h .«msg_type») }
+
 -- the good answer: the header, and its end as the stop
+abbrev pub headed : CommonFields → CommonHeaderAnswer
+headed f = CommonHeaderAnswer.Good (named f) 6
+
 abbrev pub shown : Reading → CommonHeaderAnswer
-shown r = CommonHeaderAnswer.Good (record { version = r .version; «msg_len» = r .length; «msg_type» = typeOf (r .kind) }) 6
+shown r = headed (fieldsOf r)
 
 -- what each answer says: its refusal, its stop and its header, all zero where it refuses
 abbrev pub refusalOf : CommonHeaderAnswer → Refusal

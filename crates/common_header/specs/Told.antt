@@ -4,14 +4,9 @@ use mathlib.Core.List.{List}
 use Rattle.wire.specs.Exactly.{Nothing}
 use Rattle.wire.specs.declared.View.{View}
 use Rattle.common_header.specs.Grammar.{Reading}
-use Rattle.common_header.specs.Shown.{kindOf, headerOf}
+use Rattle.common_header.specs.Fields.{readingFrom}
+use Rattle.common_header.specs.Shown.{numbered, headerOf}
 use Rattle.common_header.specs.declared.CommonHeaderAnswer.{CommonHeaderAnswer}
 
 abbrev pub told : (View → List ℕ) → CommonHeaderAnswer → Nothing → List ℕ → Reading
-told look a x tail =
-    record {
-      version = headerOf a .version;
-      length = headerOf a .«msg_len»;
-      kind = kindOf (headerOf a .«msg_type»);
-      tail = tail;
-    }
+told look a x tail = readingFrom (numbered (headerOf a)) tail

@@ -4,10 +4,11 @@ use cursor::ReadU8;
 use cursor::ReadU32;
 use wire::Refusal;
 ghost use mathlib.Core.Path.{_≡_};
-ghost use Rattle.common_header.specs.declared.CommonFields.{CommonFields};
+ghost use Rattle.common_header.specs.declared.CommonFieldsAnswer.{CommonFieldsAnswer};
 ghost use Rattle.common_header.specs.declared.CommonHeaderAnswer.{CommonHeaderAnswer};
 ghost use Rattle.common_header.specs.Shown.{typeOf, kindOf};
-ghost use Rattle.common_header.specs.Read.{readFields, judged, readCommonHeader};
+ghost use Rattle.common_header.specs.Fields.{readFields, readCommonFields};
+ghost use Rattle.common_header.specs.Read.{judged, readCommonHeader};
 
 pub enum BmpMsgType {
     RouteMonitoring,
@@ -37,9 +38,16 @@ pub enum CommonHeaderAnswer {
     Refused(Refusal),
 }
 
-// Length and type as they stand there: whether the type is known is not judged yet.
-enum CommonFields {
-    Whole(u32, u8),
+// Version, length and type as they stand there: the type may be any number.
+pub struct CommonFields {
+    pub version: u8,
+    pub msg_len: u32,
+    pub kind: u8,
+}
+
+// The fields, behind which the message goes on at 6, or why they are not all there.
+pub enum CommonFieldsAnswer {
+    Good(CommonFields),
     Refused(Refusal),
 }
 
@@ -47,48 +55,62 @@ enum CommonFields {
 pub fn parse_bmp_common_header(s: &[u8]) -> CommonHeaderAnswer
     ensures { λ r. ⌜ r ≡ readCommonHeader (now (s .entry)) ⌝ }
 {
-    if wire::LIMIT < s.len() {
-        return CommonHeaderAnswer::Refused(wire::refusal_at(wire::TOO_LONG, 0));
-    }
-    match read_fields(s) {
-        CommonFields::Refused(refusal) => CommonHeaderAnswer::Refused(refusal),
-        CommonFields::Whole(msg_len, kind) => judge(msg_len, kind),
+    match parse_common_fields(s) {
+        CommonFieldsAnswer::Refused(refusal) => CommonHeaderAnswer::Refused(refusal),
+        CommonFieldsAnswer::Good(fields) => fields.header(),
     }
 }
 
-fn read_fields(s: &[u8]) -> CommonFields
+// Reads the header's fields and does not judge the type: who ignores messages of unknown types has their length from here.
+pub fn parse_common_fields(s: &[u8]) -> CommonFieldsAnswer
+    ensures { λ r. ⌜ r ≡ readCommonFields (now (s .entry)) ⌝ }
+{
+    if wire::LIMIT < s.len() {
+        return CommonFieldsAnswer::Refused(wire::refusal_at(wire::TOO_LONG, 0));
+    }
+    read_fields(s)
+}
+
+fn read_fields(s: &[u8]) -> CommonFieldsAnswer
     ensures { λ r. ⌜ r ≡ readFields (now (s .entry)) ⌝ }
 {
     let start = Cursor { at: 0 };
     match start.read_u8(s) {
-        ReadU8::Cut(refusal) => CommonFields::Refused(refusal),
+        ReadU8::Cut(refusal) => CommonFieldsAnswer::Refused(refusal),
         ReadU8::Good(version, after_version) => {
             if version != VERSION {
-                return CommonFields::Refused(wire::refusal_at(wire::BAD_VERSION, 0));
+                return CommonFieldsAnswer::Refused(wire::refusal_at(wire::BAD_VERSION, 0));
             }
             match after_version.read_u32(s) {
-                ReadU32::Cut(refusal) => CommonFields::Refused(refusal),
+                ReadU32::Cut(refusal) => CommonFieldsAnswer::Refused(refusal),
                 ReadU32::Good(msg_len, after_length) => match after_length.read_u8(s) {
-                    ReadU8::Cut(refusal) => CommonFields::Refused(refusal),
-                    ReadU8::Good(kind, _) => CommonFields::Whole(msg_len, kind),
+                    ReadU8::Cut(refusal) => CommonFieldsAnswer::Refused(refusal),
+                    ReadU8::Good(kind, _) => CommonFieldsAnswer::Good(CommonFields {
+                        version: version,
+                        msg_len: msg_len,
+                        kind: kind,
+                    }),
                 },
             }
         }
     }
 }
 
-fn judge(msg_len: u32, kind: u8) -> CommonHeaderAnswer
-    ensures { λ r. ⌜ r ≡ judged (CommonFields.Whole «msg_len» kind) ⌝ }
-{
-    if 6 < kind {
-        return CommonHeaderAnswer::Refused(wire::refusal_at(wire::UNKNOWN_KIND, 5));
+impl CommonFields {
+    // The header with the name of its type, or UnknownKind where there is none.
+    pub fn header(self) -> CommonHeaderAnswer
+        ensures { λ r. ⌜ r ≡ judged self ⌝ }
+    {
+        if 6 < self.kind {
+            return CommonHeaderAnswer::Refused(wire::refusal_at(wire::UNKNOWN_KIND, 5));
+        }
+        let header = BmpCommonHeader {
+            version: self.version,
+            msg_len: self.msg_len,
+            msg_type: type_of(self.kind),
+        };
+        CommonHeaderAnswer::Good(header, COMMON_HEADER)
     }
-    let header = BmpCommonHeader {
-        version: VERSION,
-        msg_len: msg_len,
-        msg_type: type_of(kind),
-    };
-    CommonHeaderAnswer::Good(header, COMMON_HEADER)
 }
 
 fn type_of(kind: u8) -> BmpMsgType

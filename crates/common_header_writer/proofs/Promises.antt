@@ -44,7 +44,7 @@ reads-back h e =
     let w = writable-is h e in
     let n = length-join (readingOf h) in
     let t = named (h .«msg_type») in
-    let g : Good (readingOf h) = record { version-is = w .0; length-fits = w .1; kind-known = t .1; tail-bytes = none } in
+    let g : Good (readingOf h) = record { any-type = record { version-is = w .0; length-fits = w .1; kind-fits = omega (arith, t .1); tail-bytes = none }; kind-known = t .1 } in
     let c = complete (readingOf h) g tt (omega arith) in
     record {
       read-good = ap (λ (a : CommonHeaderAnswer). refusalOf a .number) c;
@@ -69,8 +69,8 @@ only-writable h r =
     bytes-append (bytes-be 1 (h .version)) (bytes-append (bytes-be 4 (h .«msg_len»)) (bytes-append (bytes-be 1 (kindOf (h .«msg_type»))) none)) in
     let x = sound s p (r .read-good) in
     let e : headerOf (shown (x .0)) ≡ h = ap headerOf (sym (x .1 .shown-so)) ∙ r .same in
-    let v : h .version ≡ 3 = ap (λ (k : BmpCommonHeader). k .version) (sym e) ∙ x .1 .reading .is-good .version-is in
-    let n : h .«msg_len» < 256 ^ 4 = subst (λ (k : BmpCommonHeader). k .«msg_len» < 256 ^ 4) e (x .1 .reading .is-good .length-fits) in
+    let v : h .version ≡ 3 = ap (λ (k : BmpCommonHeader). k .version) (sym e) ∙ x .1 .reading .is-good .any-type .version-is in
+    let n : h .«msg_len» < 256 ^ 4 = subst (λ (k : BmpCommonHeader). k .«msg_len» < 256 ^ 4) e (x .1 .reading .is-good .any-type .length-fits) in
     rw (eq-eqb (h .version) 3 v) (lt-ltb (h .«msg_len») (256 ^ 4) n)
 
 -- A header whose length is a u32, as its type says, is not writable exactly where an item of the list holds of it.

@@ -6,7 +6,7 @@ use lib.ListN.{length}
 use Rattle.wire.specs.Bytes.{value}
 use Rattle.wire.specs.Walk.{walk, fill}
 use Rattle.common_header.specs.Shown.{typeOf, kindOf}
-use Rattle.common_header.specs.Read.{readFields}
+use Rattle.common_header.specs.Fields.{readFields}
 use Rattle.initiation_message.specs.Read.{step}
 use Rattle.decimal.specs.Decimal.{digitsIn}
 use Rattle.message_answer.specs.Answer.{answerOf}

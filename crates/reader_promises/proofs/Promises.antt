@@ -9,6 +9,7 @@ use Rattle.wire.proofs.Exactly.{exactly-from}
 use Rattle.models.specs.declared.Afi.{Afi}
 use Rattle.models.specs.declared.AsnLength.{AsnLength}
 use Rattle.per_peer_type.specs.declared.BmpPeerType.{BmpPeerType}
+use Rattle.common_header.specs.Fields as CommonFields
 use Rattle.common_header.specs.Read as CommonHeader
 use Rattle.common_header.proofs.Promises as CommonHeaderPromises
 use Rattle.per_peer_header.specs.Read as PerPeerHeader
@@ -33,7 +34,11 @@ use Rattle.peer_up_notification.proofs.Promises as PeerUpPromises
 use Rattle.openbmp.specs.Read as OpenBmp
 use Rattle.openbmp.proofs.Promises as OpenBmpPromises
 
--- the common header (RFC 7854, section 4.1)
+-- the fields of a common header of any type (RFC 7854, section 4.1)
+pub common-fields-exactly : Exactly CommonFields.reader
+common-fields-exactly = exactly-from CommonFields.reader CommonHeaderPromises.fields-sound CommonHeaderPromises.fields-complete CommonHeaderPromises.fields-told-back CommonHeaderPromises.fields-unique (λ r. refl)
+
+-- the common header, whose type is known
 pub common-header-exactly : Exactly CommonHeader.reader
 common-header-exactly = exactly-from CommonHeader.reader CommonHeaderPromises.sound CommonHeaderPromises.complete CommonHeaderPromises.told-back CommonHeaderPromises.unique (λ r. refl)
 
@@ -78,6 +83,9 @@ pub open-bmp-exactly : Exactly OpenBmp.reader
 open-bmp-exactly = exactly-from OpenBmp.reader OpenBmpPromises.sound OpenBmpPromises.complete OpenBmpPromises.told-back OpenBmpPromises.unique (λ r. refl)
 
 -- ---- what each refuses with: the numbers that its `numbers` lists, each for some input, and no other; a refusal shows nothing else
+pub common-fields-refuses : Refuses CommonFields.reader
+common-fields-refuses = CommonHeaderPromises.fields-refuses
+
 pub common-header-refuses : Refuses CommonHeader.reader
 common-header-refuses = CommonHeaderPromises.refuses
 
@@ -112,6 +120,9 @@ pub open-bmp-refuses : Refuses OpenBmp.reader
 open-bmp-refuses = OpenBmpPromises.refuses
 
 -- ---- what is missing in a Cut: who waits for as many bytes waits neither too long nor in vain; an OPEN may be Cut twice at one place
+pub common-fields-waits : Waits CommonFields.reader
+common-fields-waits = CommonHeaderPromises.fields-waits
+
 pub common-header-waits : Waits CommonHeader.reader
 common-header-waits = CommonHeaderPromises.waits
 
@@ -146,6 +157,9 @@ pub open-bmp-waits : Waits OpenBmp.reader
 open-bmp-waits = OpenBmpPromises.waits
 
 -- ---- and that a refusal says that bytes are missing exactly where it is a Cut
+pub common-fields-missing-tells : MissingTells CommonFields.reader
+common-fields-missing-tells = CommonHeaderPromises.fields-missing-tells
+
 pub common-header-missing-tells : MissingTells CommonHeader.reader
 common-header-missing-tells = CommonHeaderPromises.missing-tells
 

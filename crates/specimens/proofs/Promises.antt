@@ -4,7 +4,7 @@ use mathlib.Core.Path.{_≡_, refl}
 use Rattle.wire.specs.Bytes.{value}
 use Rattle.wire.specs.Walk.{walk, fill}
 use Rattle.common_header.specs.Shown as Common
-use Rattle.common_header.specs.Read.{readFields}
+use Rattle.common_header.specs.Fields.{readFields}
 use Rattle.initiation_message.specs.Shown as Initiation
 use Rattle.initiation_message.specs.Read.{step}
 use Rattle.peer_down_notification.specs.Shown as PeerDown

@@ -10,7 +10,7 @@ use Rattle.wire.specs.Bytes.{value, none}
 use Rattle.wire.specs.Refuses.{OneOf, Refuses}
 use Rattle.wire.proofs.Refuses.{pick-in, Answered, is-good, is-empty, one-of, GivesEach, refuses-from, bytes-are}
 use Rattle.common_header.specs.Read as Header
-use Rattle.common_header.specs.Read.{readFields}
+use Rattle.common_header.specs.Fields.{readFields}
 use Rattle.common_header.specs.declared.CommonHeaderAnswer.{CommonHeaderAnswer}
 use Rattle.common_header.proofs.Refusals as HeaderRefusals
 use Rattle.splitter.specs.Read.{afterHeader, splitOf, numbers, reader}

@@ -7,7 +7,7 @@ use Rattle.wire.specs.Number as Number
 use Rattle.wire.specs.Refusal.{refusal, noRefusal, lacking}
 use Rattle.wire.specs.declared.Refusal.{Refusal}
 use Rattle.common_header.specs.Shown.{typeOf, kindOf}
-use Rattle.common_header.specs.Read.{readFields}
+use Rattle.common_header.specs.Fields.{readFields}
 use Rattle.splitter.specs.Shown.{refusalOf, stopOf, commonHeaderOf}
 use Rattle.splitter.specs.Read.{splitOf}
 

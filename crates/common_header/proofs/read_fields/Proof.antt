@@ -1,6 +1,6 @@
 use borrow.Author.Needs.{needs}
 use denote.Ref.{now}
-use mathlib.Core.Path.{_≡_, sym, ap, ap₂, _∙_, subst}
+use mathlib.Core.Path.{_≡_, sym, ap, _∙_, subst}
 use Prim.Native.Nat.{ℕ}
 use lib.ListN.{length}
 use Rattle.common_header.proofs.Fields.{no-version, other-version, no-length, no-kind, whole}
@@ -10,7 +10,7 @@ use Rattle.cursor.specs.Read.{fromU8, fromU32}
 use Rattle.cursor.proofs.Reading.{Was, was-got, was-cut, tells8, tells32}
 use Rattle.common_header.proofs.read_fields.Statement.{statement}
 use Rattle.common_header.proofs.read_fields.Tie as tie
-use Rattle.common_header.specs.declared.CommonFields.{CommonFields}
+use Rattle.common_header.specs.declared.CommonFieldsAnswer.{CommonFieldsAnswer}
 
 was-version : (c : tie.After-known-told2) → Was 1 (now (c .before .before .before .before .before .args .s)) 0 (c .before .version .given .0 .0) (c .before .version .given .0 .1 .0)
 was-version c = was-got 1 (now (c .before .before .before .before .before .args .s)) 0 (ap fromU8 (c .before .version .given .1)) (tells8 _ (c .before .before .before .read-u8 .ensures))
@@ -35,7 +35,7 @@ refusal-at-requires c κs = search needs
 returns : tie.Need-returns
 returns c =
     let v = was-version (c .before .before) in
-    ap CommonFields.Refused (c .refusal-at .ensures) ∙ sym (other-version (now (c .before .before .before .before .before .before .before .args .s)) (v .left) (λ e. c .before .if1 .taken (v .number ∙ e)))
+    ap CommonFieldsAnswer.Refused (c .refusal-at .ensures) ∙ sym (other-version (now (c .before .before .before .before .before .before .before .args .s)) (v .left) (λ e. c .before .if1 .taken (v .number ∙ e)))
 
 read-u32-requires : tie.Need-read-u32-requires
 read-u32-requires c κs = search needs
@@ -59,14 +59,14 @@ returns-2 : tie.Need-returns-2
 returns-2 c =
     let s = now (c .before .before .before .before .before .args .s) in
     let h = was-cut 1 s 0 (ap fromU8 (c .before .refusal .given .1)) (tells8 _ (c .before .before .before .read-u8 .ensures)) in
-    ap CommonFields.Refused (h .cut-is) ∙ sym (no-version s (h .few))
+    ap CommonFieldsAnswer.Refused (h .cut-is) ∙ sym (no-version s (h .few))
 
 returns-3 : tie.Need-returns-3
 returns-3 c =
     let s = now (c .before .before .before .before .before .before .before .before .before .before .args .s) in
     let v = was-version (c .before .before .before .before .before) in
     let h = was-cut 4 s (c .before .before .before .before .before .before .version .given .0 .1 .0 .at) (ap fromU32 (c .before .refusal2 .given .1)) (tells32 _ (c .before .before .before .read-u32 .ensures)) in
-    ap CommonFields.Refused (h .cut-is ∙ ap (λ (p : ℕ). cutAt (length s) p 4) (v .next))
+    ap CommonFieldsAnswer.Refused (h .cut-is ∙ ap (λ (p : ℕ). cutAt (length s) p 4) (v .next))
     ∙ sym (no-length s (v .left) (sym (v .number) ∙ c .before .before .before .before .if1 .left) (rw (← v .next) (h .few)))
 
 returns-4 : tie.Need-returns-4
@@ -75,7 +75,7 @@ returns-4 c =
     let v = was-version (c .before .before .before .before .before .before .before .before .before) in
     let n = was-length (c .before .before .before .before) in
     let h = was-cut 1 s (c .before .before .before .before .before .msg-len .given .0 .1 .0 .at) (ap fromU8 (c .before .refusal3 .given .1)) (tells8 _ (c .before .before .before .read-u82 .ensures)) in
-    ap CommonFields.Refused (h .cut-is ∙ ap (λ (p : ℕ). cutAt (length s) p 1) (n .next))
+    ap CommonFieldsAnswer.Refused (h .cut-is ∙ ap (λ (p : ℕ). cutAt (length s) p 1) (n .next))
     ∙ sym (no-kind s (v .left) (sym (v .number) ∙ c .before .before .before .before .before .before .before .before .if1 .left) (n .left) (rw (← n .next) (h .few)))
 
 returns-5 : tie.Need-returns-5
@@ -85,7 +85,8 @@ returns-5 c =
     let n = was-length (c .before .before .before .before) in
     let k = was-got 1 s (c .before .before .before .before .before .msg-len .given .0 .1 .0 .at) (ap fromU8 (c .before .kind .given .1)) (tells8 _ (c .before .before .before .read-u82 .ensures)) in
     let place : c .before .before .before .before .before .msg-len .given .0 .1 .0 .at ≡ 5 = n .next in
-    ap₂ CommonFields.Whole (n .number) (k .number ∙ ap (numAt 1 s) place)
+    let kind-is = k .number ∙ ap (numAt 1 s) place in
+    (λ i. CommonFieldsAnswer.Good (record { version = v .number i; «msg_len» = n .number i; kind = kind-is i }))
     ∙ sym (whole s (v .left) (sym (v .number) ∙ c .before .before .before .before .before .before .before .before .if1 .left) (n .left) (rw (← place) (k .left)))
 
 pub read-fields-spec : {M : Type 1} → statement M

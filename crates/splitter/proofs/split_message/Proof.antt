@@ -2,7 +2,8 @@ use borrow.Author.Needs.{needs}
 use denote.Ref.{now}
 use mathlib.Core.Path.{sym, ap, _∙_}
 use Rattle.common_header.specs.Shown.{refusalOf}
-use Rattle.common_header.proofs.Laws.{accepted}
+use Rattle.common_header.specs.Fields.{readCommonFields}
+use Rattle.common_header.proofs.Laws.{accepted, fields-accepted}
 use Rattle.common_header.specs.declared.CommonHeaderAnswer.{CommonHeaderAnswer}
 use Rattle.splitter.proofs.split_message.Statement.{statement}
 use Rattle.splitter.proofs.split_message.Tie as tie
@@ -19,7 +20,8 @@ enum-known-header c = search needs
 judge-requires : tie.Need-judge-requires
 judge-requires c κs =
     let good = ap (λ (a : CommonHeaderAnswer). refusalOf a .number) (sym (c .before .before .before .parse-bmp-common-header .ensures) ∙ c .before .header .given .1) in
-    let long = accepted (now (c .before .before .before .before .before .args .s)) good .long in
+    let s = now (c .before .before .before .before .before .args .s) in
+    let long = accepted s (fields-accepted (readCommonFields s) good) .long in
     search needs
 
 returns : tie.Need-returns
