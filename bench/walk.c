@@ -55,19 +55,27 @@ static double time_of(uint32_t seconds, uint32_t microseconds) { return (double)
 
 typedef struct { uint8_t version, kind; uint32_t length; size_t stop; } Common;
 
-static Refusal read_common(const uint8_t *s, size_t n, Common *a) {
+static int known(const Common *a) { return a->kind <= MIRRORING; }
+
+/* Of any type. */
+static Refusal read_fields(const uint8_t *s, size_t n, Common *a) {
     if (n > LIMIT) return refused(TOO_LONG, 0);
     if (n < 1) return cut(0, 1);
     if (s[0] != 3) return refused(BAD_VERSION, 0);
     if (n < 5) return cut(1, 5 - n);
     if (n < 6) return cut(5, 1);
-    if (s[5] > MIRRORING) return refused(UNKNOWN_KIND, 5);
     *a = (Common){3, s[5], be32(s + 1), 6};
     return good;
 }
 
+static Refusal read_common(const uint8_t *s, size_t n, Common *a) {
+    Refusal r = read_fields(s, n, a);
+    if (r.number) return r;
+    return known(a) ? good : refused(UNKNOWN_KIND, 5);
+}
+
 static Refusal split(const uint8_t *s, size_t n, Common *a) {
-    Refusal r = read_common(s, n, a);
+    Refusal r = read_fields(s, n, a);
     if (r.number) return r;
     if (a->length < 6) return refused(BAD_MESSAGE_LENGTH, 1);
     if (a->length > LIMIT) return refused(TOO_LONG, 1);
@@ -353,7 +361,7 @@ static uint64_t of_peer(const Peer *a) {
     }
 
 READER(common, Common, read_common(s, n, &a), mix(mix(a.stop, a.length), a.kind))
-READER(split, Common, split(s, n, &a), mix(mix(with_view(0, (View){0, a.length}), a.length), a.kind))
+READER(split, Common, split(s, n, &a), mix(mix(with_view(!known(&a), (View){0, a.length}), a.length), a.kind))
 READER(perpeer, Peer, read_peer(s, n, &a), of_peer(&a))
 READER(initiation, Tlvs, read_initiation(s, n, &a), with_tlvs(mix(a.stop, a.tail), &a))
 READER(termination, Tlvs, read_termination(s, n, &a), with_tlvs(mix(a.stop, a.tail), &a))
@@ -426,7 +434,7 @@ static uint64_t of_message(uint8_t kind, const uint8_t *s, size_t n) {
 uint64_t c_message(const uint8_t *s, size_t n, uint64_t *sum) {
     Common a;
     if (split(s, n, &a).number) return 0;
-    *sum ^= of_message(a.kind, s + 6, a.length - 6);
+    if (known(&a)) *sum ^= of_message(a.kind, s + 6, a.length - 6);
     return a.length;
 }
 
@@ -473,9 +481,8 @@ uint64_t c_list(const uint8_t *s, size_t n, uint8_t *out, size_t room) {
         Common a;
         r = split(s + at, n - at, &a);
         if (r.number) break;
-        uint8_t answer = answer_of(a.kind, s + at + 6, a.length - 6);
-        o = put_field(put_field(o, at, ' '), a.kind, ' ');
-        o = put_field(put_field(o, a.length, ' '), answer, '\n');
+        o = put_field(put_field(put_field(o, at, ' '), a.kind, ' '), a.length, ' ');
+        o = known(&a) ? put_field(o, answer_of(a.kind, s + at + 6, a.length - 6), '\n') : put_text(o, "skip\n");
         at += a.length;
     }
     if (r.number) o = put_field(put_text(put_field(o, at, ' '), "- - "), r.number, '\n');

@@ -184,22 +184,31 @@ class CommonHeader(NamedTuple):
     msg_type: int
 
 
-def read_common_header(data):
+def has_known_type(header):
+    return header.msg_type <= ROUTE_MIRRORING
+
+
+def read_common_fields(data):
+    """The three fields. The type may be any number: whoever asks for them judges it, or does not."""
     cursor = Cursor(data)
     version = cursor.u8()
     if version != 3:
         raise Refused(BAD_VERSION, 0)
     msg_len = cursor.u32()
-    place = cursor.place
     msg_type = cursor.u8()
-    if msg_type > 6:
-        raise Refused(UNKNOWN_KIND, place)
     return good(CommonHeader(version, msg_len, msg_type), cursor.place)
+
+
+def read_common_header(data):
+    answer = read_common_fields(data)
+    if not has_known_type(answer.record):
+        raise Refused(UNKNOWN_KIND, 5)
+    return answer
 
 
 def write_common_header(record, _buffer, output):
     return write(
-        record.version == 3 and record.msg_type <= 6,
+        record.version == 3 and has_known_type(record),
         lambda: [be(record.version, 1), be(record.msg_len, 4), be(record.msg_type, 1)],
         output,
     )
@@ -208,15 +217,28 @@ def write_common_header(record, _buffer, output):
 # Splitter.
 
 
+class Message(NamedTuple):
+    header: CommonHeader
+
+
+class Skipped(NamedTuple):
+    """A message of a type that is not known: its header says how long it is, and what it holds is not read."""
+
+    header: CommonHeader
+
+
 def split(data):
-    """One message off the front. Its header is all there where it is Cut at 6, so what is missing is its length less all bytes."""
-    header = read_common_header(data).record
+    """One message off the front, of whatever type: the record is a Message or Skipped.
+
+    The header is all there where it is Cut at 6, so what is missing is its length less all bytes.
+    """
+    header = read_common_fields(data).record
     if header.msg_len < 6:
         raise Refused(BAD_MESSAGE_LENGTH, 1)
     if header.msg_len > MAX_BYTES:
         raise Refused(TOO_LONG, 1)
     require(len(data), 6, header.msg_len - 6)
-    return good(header, header.msg_len)
+    return good(Message(header) if has_known_type(header) else Skipped(header), header.msg_len)
 
 
 # Per-peer header.

@@ -95,13 +95,32 @@ def split_cases():
     message = common(length=11) + tlv(2, b"A")
     yield from cuts(message)
     yield message + message
-    yield from [common(length=length, kind=kind) for length in (0, 5, 6, 7) for kind in (0, 6, 7)]
+    yield from [common(length=length, kind=kind) for length in (0, 5, 6, 7) for kind in (0, 6)]
     yield from [common(length=length) + bytes(4) for length in (0, 5, 6, 7, 9, 10, 11)]
-    yield from [common(length=length, kind=7) for length in (1_048_576, 1_048_577)]
     yield from [common(length=1_048_577) + bytes(20), common(length=1_048_576) + bytes(20)]
-    yield common(version=4, length=5, kind=7)
     yield common(length=0x06000000) + bytes(20)
     yield from damaged([message], 30, 1)
+    yield from skipped_cases(message)
+
+
+def skipped_cases(message):
+    """Messages of types that are not known: small ones short of a byte, whole, and with another behind them; else the header alone."""
+    for kind in (7, 8, 9, 128, 254, 255):
+        for length in (6, 7, 9):
+            small = common(length=length, kind=kind) + counting(length - 6)
+            yield from [small[:-1], small, small + common()]
+        yield from [common(length=length, kind=kind) for length in (0, 5, 9, 1_048_576, 1_048_577, LARGEST)]
+    yield from [common(version=4, length=length, kind=9) for length in (5, 6)]
+    unknown = common(length=11, kind=9) + tlv(2, b"A")
+    yield from cuts(unknown)
+    yield from [unknown + message, message + unknown, unknown + unknown]
+    yield from [common(length=12, kind=9) + body for body in broken_headers()]
+    yield from damaged([unknown], 10, 10)
+
+
+def broken_headers():
+    """Each would be refused by its version, by its length, or for want of bytes. As a body it has no say."""
+    return [common(version=2), common(length=0), common(length=5, kind=9), common(length=7), common(length=LARGEST), b"\xff" * 6]
 
 
 # Per-peer header.
@@ -399,8 +418,10 @@ def messages_by_fields():
     yield "perpeer", "-", peer(flags=0x80, **FULL), {
         "type": 1, "flags": 1, "distinguisher": 8, "address": 16, "AS": 4, "BGP ID": 4, "seconds": 4, "microseconds": 4,
     }  # fmt: skip
-    for length in (6, 7, 9, 300):
-        yield "split", "-", common(length=length) + counting(length - 6), {"version": 1, "length": 4, "type": 1, "rest": length - 6}
+    for kind, length in ((4, 6), (4, 7), (4, 9), (4, 300), (9, 6), (9, 9), (255, 300)):
+        yield "split", "-", common(length=length, kind=kind) + counting(length - 6), {
+            "version": 1, "length": 4, "type": 1, "rest": length - 6,
+        }  # fmt: skip
     for one, two in ((1, 4), (4, 8), (8, 11), (11, 300), (300, 0), (0, 1)):
         yield "stats", "-", stats([tlv(7, counting(one)), tlv(9, counting(two))]), {
             "count": 4, "type": 2, "length": 2, "value": one, "second type": 2, "second length": 2, "second value": two,
@@ -454,6 +475,7 @@ def waits():
     return [
         ("common", "-", common()[:2], more[:3]), ("common", "-", common()[:5], more[:1]),
         ("split", "-", common()[:2], more[:3]), ("split", "-", common(length=9), more[:3]), ("split", "-", common(length=300), more[:294]),
+        ("split", "-", common(length=9, kind=7), more[:3]), ("split", "-", common(length=300, kind=255), more[:294]),
         ("perpeer", "-", peer()[:5], more[:5]), ("perpeer", "-", peer()[:12], more[:14]), ("perpeer", "-", peer()[:41], more[:1]),
         ("stats", "-", u8(0), more[:3]), ("stats", "-", stats([tlv(9, u16(1), 11)]), more[:9]),
         ("stats", "-", stats([tlv(24, b""), tlv(44, b"", 300)]), more[:300]),
@@ -513,10 +535,10 @@ def argument_lines():
 
 
 def missing_lines(known):
-    """What a Cut lacks, in lines that are not known yet; the last two have as many bytes as a slice may have, or one less."""
+    """What a Cut lacks, in lines that are not known yet; the last three have as many bytes as a slice may have, or one less."""
     lines = [line(*case) for case in (*cut_fields(), *waiting())]
     yield from [new for new in dict.fromkeys(lines) if new not in known]
-    yield text_line("split", "-", common(length=LIMIT), (LIMIT - 7, b"\x00"))
+    yield from [text_line("split", "-", common(length=LIMIT, kind=kind), (LIMIT - 7, b"\x00")) for kind in (4, 9)]
     yield text_line("stats", "-", *whole_table(u32(17)))
 
 
@@ -543,14 +565,16 @@ def limit_lines():
         yield text_line("stats", "-", u32(count), (count, u16(7) + u16(4) + u32(count)))
     for length in (LIMIT, LIMIT + 1):
         yield from slice_lines(length)
-    for length in (LIMIT, LIMIT + 1):
-        yield text_line("split", "-", common(length=length), (LIMIT - 6, b"\x00"))
+    for kind in (4, 9):
+        for length in (LIMIT, LIMIT + 1):
+            yield text_line("split", "-", common(length=length, kind=kind), (LIMIT - 6, b"\x00"))
 
 
 def slice_lines(length):
     """A slice of this length for each reader and the splitter. Those that would show all of it are not asked for more than a refusal."""
     slices = [
-        ("common", "-", common()), ("split", "-", common()), ("perpeer", "-", peer()), ("openbmp", "-", open_bmp()),
+        ("common", "-", common()), ("split", "-", common()), ("split", "-", common(kind=9)),
+        ("perpeer", "-", peer()), ("openbmp", "-", open_bmp()),
         ("stats", "-", u32(0)), ("initiation", "-", b"\x00"), ("termination", "-", b"\x00"),
         ("mirroring", "asn=32,type=0", b"\x00"), ("peerup", "afi=6,asn=32,type=0", peer_up()), ("peerdown", "-", u8(4)),
     ]  # fmt: skip
@@ -802,7 +826,7 @@ def bad_lines():
 
 
 def lines():
-    known = [*reader_lines(), *argument_lines(), *(line("split", "-", data) for data in split_cases())]
+    known = [*reader_lines(), *argument_lines(), *(line("split", "-", data) for data in dict.fromkeys(split_cases()))]
     yield from known
     yield from [line("equal", "-", data) for data in equal_cases()]
     yield from missing_lines(set(known))

@@ -1,19 +1,23 @@
 """The counters of a BMP stream on standard input, as the program `counters` prints them.
 
-With the word `last` it writes instead the last Statistics Report of each peer, whole, to standard output.
+With the word `last` it writes instead the last Statistics Report of each peer, whole, to standard output. Between any two of them it puts
+a message of a type that is not known, so that `counters` is tried on messages that are skipped.
 """
 
 import sys
 
 import bmp
 
+# Type 9. No message begins as its body does, so one who passes over its header alone is refused right behind it.
+BETWEEN = bytes.fromhex("03 00000009 09 ffffff")
+
 
 def reports(stream):
-    """Each Statistics Report whose header and body are good: its bytes, its peer, and its record."""
+    """Each Statistics Report whose header and body are good: its bytes, its peer, and its record. A skipped message is none."""
     place = 0
     while place < len(stream):
         try:
-            header = bmp.split(stream[place:]).record
+            header = bmp.split(stream[place:]).record.header
         except bmp.Refused:
             return
         message = stream[place : place + header.msg_len]
@@ -44,7 +48,7 @@ def print_counters(stream):
 
 def write_last(stream):
     last = {name_of(peer): message for message, peer, _ in reports(stream)}
-    sys.stdout.buffer.write(b"".join(last.values()))
+    sys.stdout.buffer.write(BETWEEN.join(last.values()))
 
 
 if __name__ == "__main__":

@@ -2,7 +2,8 @@
 
     python3 independent/damaged.py RECORDING FOLDER
 
-Each copy holds at most the recording's first three messages. RECORDING has at least three, the second with a per-peer header.
+Each copy holds at most the recording's first three messages, and in three copies there are messages of unknown types beside them.
+RECORDING has at least three, the second with a per-peer header.
 """
 
 import os
@@ -51,6 +52,22 @@ def shortened_copies(stream, first, second):
     return copies
 
 
+def of_type(kind, body, length=None):
+    """A message with this body, whose length field may say something else."""
+    return b"\x03" + (6 + len(body) if length is None else length).to_bytes(4, "big") + bytes([kind]) + body
+
+
+def with_unknown_types(stream, first, second):
+    """Messages of unknown types beside the good ones. Whoever read their bodies would refuse that of type 9, and list that of type 255."""
+    one, two, three = stream[:first], stream[first:second], stream[second:]
+    refused = bytes.fromhex("02 00000005 04")
+    return {
+        "unknown-types-between": one + of_type(7, b"") + two + of_type(9, refused) + three + of_type(255, one),
+        "unknown-type-length-5": one + of_type(9, b"", length=5) + two + three,
+        "unknown-type-cut": stream + of_type(9, refused)[:-1],
+    }
+
+
 def damaged_copies(recording):
     first, second, third = edges(recording)
     stream = recording[:third]
@@ -60,6 +77,7 @@ def damaged_copies(recording):
         **wrong_headers(stream, "second", first),
         **shortened_copies(stream, first, second),
         "second-peer-type-4": with_bytes(stream, first + 6, b"\x04"),
+        **with_unknown_types(stream, first, second),
     }
 
 

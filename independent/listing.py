@@ -20,14 +20,20 @@ def listing(stream):
     place = 0
     while place < len(stream):
         try:
-            header = bmp.split(stream[place:]).record
+            found = bmp.split(stream[place:]).record
         except bmp.Refused as refusal:
             lines.append(f"{place} - - {refusal.number}")
             break
+        header = found.header
         message = stream[place : place + header.msg_len]
-        lines.append(f"{place} {header.msg_type} {header.msg_len} {number_of(header.msg_type, message)}")
+        lines.append(f"{place} {header.msg_type} {header.msg_len} {answer_of(found, message)}")
         place += header.msg_len
     return lines + [f"end {place}"]
+
+
+def answer_of(found, message):
+    """The last field of a message's line. The bytes of a skipped one are not looked at."""
+    return "skip" if isinstance(found, bmp.Skipped) else number_of(found.header.msg_type, message)
 
 
 def number_of(msg_type, message):

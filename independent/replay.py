@@ -42,7 +42,7 @@ def show_common(record, _data):
 
 
 def show_split(record, _data):
-    return f"length={record.msg_len} type={record.msg_type}"
+    return f"length={record.header.msg_len} type={record.header.msg_type}"
 
 
 def show_perpeer(record, _data):
@@ -144,9 +144,12 @@ def show_openbmp(record, data):
 
 
 def reading(reader, show):
+    """A message that the splitter skips has a word of its own; no other reader skips anything."""
+
     def run(data, arguments):
         answer = reader(data, **arguments)
-        return f"good stop={answer.stop} tail={answer.tail} warn={answer.warnings} {show(answer.record, data)}"
+        word = "skipped" if isinstance(answer.record, bmp.Skipped) else "good"
+        return f"{word} stop={answer.stop} tail={answer.tail} warn={answer.warnings} {show(answer.record, data)}"
 
     return run
 

@@ -22,6 +22,8 @@ import bmp
 import board_cases
 import boards
 import cases
+import counters
+import damaged
 import listing
 import records
 import replay
@@ -38,6 +40,16 @@ def digits(text):
 
 def ask(verb, text, args="-"):
     return replay.answer(f"{verb} {args} {digits(text) or '-'}".encode())
+
+
+def framed(kind, body):
+    """A message of this type."""
+    return b"\3" + (6 + len(body)).to_bytes(4, "big") + bytes([kind]) + body
+
+
+def report_of(number, header=HEADER):
+    """A Statistics Report whose one counter, of type 7, has this number."""
+    return framed(1, bytes.fromhex(digits(header + f"00000001 0007 0008 {number:016x}")))
 
 
 def open_message(length=29, own=None):
@@ -77,6 +89,10 @@ class Examples(unittest.TestCase):
         rewrite-peerdown - 04aa                      | written 1 04a5a5
         common - 0300                                | refused 2 at 1 missing 3
         split - 030000000906                         | refused 2 at 6 missing 3
+        split - 030000000607                         | skipped stop=6 tail=6 warn=0 length=6 type=7
+        split - 030000000507                         | refused 10 at 1
+        split - 030000000907                         | refused 2 at 6 missing 3
+        split - 030000000907ffffff                   | skipped stop=9 tail=9 warn=0 length=9 type=7
         Common - 0300                                | bad line
         rewrite-initiation - -                       | written 0 a5a5
         common - -                                   | refused 2 at 0 missing 1
@@ -103,14 +119,13 @@ class Examples(unittest.TestCase):
 
     def test_lister(self):
         stream = bytes.fromhex("030000000b040002000141" + "030000000607")
-        self.assertEqual(listing.listing(stream), ["place type length answer", "0 4 11 0", "11 - - 4", "end 11"])
+        self.assertEqual(listing.listing(stream), ["place type length answer", "0 4 11 0", "11 7 6 skip", "end 17"])
 
 
 class Rules(unittest.TestCase):
     """What the rules say without an example; expected answers are worked out by hand from them."""
 
     def test_numbers_in_order_of_the_bytes(self):
-        self.assertEqual(ask("split", "03 00000005 07"), "refused 4 at 5")
         self.assertEqual(ask("split", "03 00100001 04"), "refused 1 at 1")
         self.assertEqual(ask("split", "03 00100000 04"), "refused 2 at 6 missing 1048570")
         self.assertEqual(ask("split", "03 00000007 04"), "refused 2 at 6 missing 1")
@@ -299,14 +314,120 @@ class Rules(unittest.TestCase):
         for kind, good, bad, number in bodies:
             for body, expected in ((good, 0), (bad, number)):
                 length = 6 + len(body)
-                stream = b"\3" + length.to_bytes(4, "big") + bytes([kind]) + body
-                self.assertEqual(listing.listing(stream)[1:], [f"0 {kind} {length} {expected}", f"end {length}"])
+                self.assertEqual(listing.listing(framed(kind, body))[1:], [f"0 {kind} {length} {expected}", f"end {length}"])
 
     def test_strip_timestamp(self):
         header = bmp.read_per_peer_header(bytes.fromhex(digits(HEADER))).record
         stripped = bmp.strip_timestamp(header)
         self.assertEqual((stripped.timestamp, stripped.seconds, stripped.microseconds), (0.0, 0, 0))
         self.assertEqual(stripped[:6], header[:6])
+
+
+class Skipping(unittest.TestCase):
+    """Messages of types that are not known: what the splitter, the lister and the counters make of them, by hand from the rules."""
+
+    GOOD = bytes.fromhex("030000000b 04 0002000141")
+
+    def listed(self, stream):
+        heading, *lines = listing.listing(stream)
+        self.assertEqual(heading, "place type length answer")
+        return lines
+
+    def test_types(self):
+        """Each of the 256 is split off, and the common header's reader takes seven of them."""
+        for kind in range(256):
+            known, header = kind <= 6, f"03 00000006 {kind:02x}"
+            self.assertEqual(ask("split", header), f"{'good' if known else 'skipped'} stop=6 tail=6 warn=0 length=6 type={kind}")
+            expected = f"good stop=6 tail=6 warn=0 version=3 length=6 type={kind}" if known else "refused 4 at 5"
+            self.assertEqual(ask("common", header), expected)
+
+    def test_refusals_come_first(self):
+        for expected, stream in (
+            ("refused 3 at 0", "04 00000006 09"),
+            ("refused 3 at 0", "04 00000005 09"),
+            ("refused 2 at 5 missing 1", "03 00000005"),
+            ("refused 10 at 1", "03 00000000 09"),
+            ("refused 10 at 1", "03 00000005 ff 0000"),
+            ("refused 1 at 1", "03 00100001 80 0000"),
+            ("refused 1 at 1", "03 ffffffff fe"),
+            ("refused 2 at 6 missing 1048570", "03 00100000 08"),
+            ("refused 2 at 6 missing 1", "03 00000009 ff 0000"),
+        ):
+            self.assertEqual(ask("split", stream), expected, stream)
+        self.assertEqual(replay.answer(b"split - 030000000609+1048570*00"), "skipped stop=6 tail=6 warn=0 length=6 type=9")
+        self.assertEqual(replay.answer(b"split - 030000000609+1048571*00"), "refused 1 at 0")
+
+    def bodies(self):
+        """Twelve bytes: those of headers that would be refused, those of messages that would be good, and any."""
+        known = ["020000000504 020000000504", "030000000004 03ffffffff07", "030000000604 030000000607", "030000000c04 000000010000"]
+        yield from [bytes.fromhex(text) for text in known]
+        yield from [bytes(12), b"\xff" * 12]
+        yield from [random.Random(seed).randbytes(12) for seed in range(50)]
+
+    def test_contents(self):
+        """Whatever the body is, the answers are the same, and so are those of what stands before and behind the message."""
+        for body in self.bodies():
+            for kind in (7, 9, 255):
+                unknown = framed(kind, body)
+                for rest in (b"", self.GOOD, body):
+                    self.assertEqual(ask("split", (unknown + rest).hex()), f"skipped stop=18 tail=18 warn=0 length=18 type={kind}")
+                self.assertEqual(ask("split", unknown[:-1].hex()), "refused 2 at 6 missing 1")
+                lines = ["0 4 11 0", f"11 {kind} 18 skip", "29 4 11 0", "end 40"]
+                self.assertEqual(self.listed(self.GOOD + unknown + self.GOOD), lines)
+
+    def test_listing(self):
+        """First, last, two in a row; in front of a length that does not fit, of a message that is cut, and of a wrong version."""
+        good, unknown = self.GOOD, framed(255, b"\0\0")
+        for stream, expected in (
+            (unknown, ["0 255 8 skip", "end 8"]),
+            (unknown + good, ["0 255 8 skip", "8 4 11 0", "end 19"]),
+            (good + unknown + unknown + good, ["0 4 11 0", "11 255 8 skip", "19 255 8 skip", "27 4 11 0", "end 38"]),
+            (good + unknown + bytes.fromhex("030000000507") + good, ["0 4 11 0", "11 255 8 skip", "19 - - 10", "end 19"]),
+            (unknown + bytes.fromhex("030000000907ffff"), ["0 255 8 skip", "8 - - 2", "end 8"]),
+            (unknown + bytes.fromhex("040000000607"), ["0 255 8 skip", "8 - - 3", "end 8"]),
+        ):
+            self.assertEqual(self.listed(stream), expected)
+
+    def test_longest_listing(self):
+        """The lister takes 65,536 bytes; 196,656 are room enough for what it says of them."""
+        full = framed(255, b"") * 10_922 + bytes.fromhex("03000000")
+        self.assertEqual(self.listed(full)[-3:], ["65526 255 6 skip", "65532 - - 2", "end 65532"])
+        self.assertLessEqual(sum(len(line) + 1 for line in listing.listing(full)), 196_656)
+        self.assertEqual(self.listed(framed(255, bytes(65_530))), ["0 255 65536 skip", "end 65536"])
+        self.assertEqual(self.listed(framed(255, bytes(65_531))), ["0 - - 1", "end 0"])
+
+    def test_damaged_copies(self):
+        """The recording begins with an Initiation of 25 bytes and two Peer Ups, of 188 and 168."""
+        copies = damaged.damaged_copies(board_cases.sample("gobgp-3.10-ups-and-downs"))
+        between = ["0 4 25 0", "25 7 6 skip", "31 3 188 0", "219 9 12 skip", "231 3 168 0", "399 255 31 skip", "end 430"]
+        for name, expected in (
+            ("unknown-types-between", between),
+            ("unknown-type-length-5", ["0 4 25 0", "25 - - 10", "end 25"]),
+            ("unknown-type-cut", ["0 4 25 0", "25 3 188 0", "213 3 168 0", "381 - - 2", "end 381"]),
+            ("first-type-7", ["0 7 25 skip", "25 3 188 0", "213 3 168 0", "end 381"]),
+            ("second-type-255", ["0 4 25 0", "25 255 188 skip", "213 3 168 0", "end 381"]),
+        ):
+            self.assertEqual(self.listed(copies[name]), expected, name)
+
+    def test_counters(self):
+        """The counters of what stands behind a skipped message are there, and a report that is the body of one is not counted."""
+        for unknown in (framed(7, b""), framed(9, b"\xff\xff\xff"), framed(255, report_of(3)), framed(8, report_of(3)[6:])):
+            stream = unknown + report_of(1) + unknown + unknown + report_of(2) + unknown
+            self.assertEqual([whole for whole, _peer, _report in counters.reports(stream)], [report_of(1), report_of(2)])
+        stream = report_of(1) + bytes.fromhex("030000000509") + report_of(2)
+        self.assertEqual([whole for whole, _peer, _report in counters.reports(stream)], [report_of(1)])
+
+    def test_list(self):
+        """In the list each of six types is skipped, and is refused with every number that a length can get; no known type is skipped."""
+        words = {}
+        for line in cases.lines():
+            data = replay.bytes_of(line.removeprefix(b"split - ")) if line.startswith(b"split - ") else None
+            if data and len(data) > 5:
+                words.setdefault(data[5], set()).add(re.match(r"good|skipped|refused \d+", replay.answer(line))[0])
+        for kind in (7, 8, 9, 128, 254, 255):
+            self.assertTrue(words[kind] >= {"skipped", "refused 1", "refused 2", "refused 10"}, kind)
+        for kind, said in words.items():
+            self.assertFalse(said & ({"skipped", "refused 4"} if kind <= 6 else {"good", "refused 4"}), kind)
 
 
 def in_row(*places):
@@ -324,6 +445,8 @@ class Missing(unittest.TestCase):
         ("perpeer", "-", LOC_RIB_HEADER, in_row(0, 1, 2, 10, 26, 30, 34, 38, 42)),
         ("split", "-", "03 00000006 04", in_row(0, 1, 5, 6)),
         ("split", "-", "03 00000009 04 aabbcc dd", in_row(0, 1, 5, 6, 9)),
+        ("split", "-", "03 00000006 07", in_row(0, 1, 5, 6)),
+        ("split", "-", "03 00000009 ff aabbcc dd", in_row(0, 1, 5, 6, 9)),
         ("stats", "-", "00000002 0009 000b 0001 01 0000000000000005 0007 0003 414243", in_row(0, 4, 6, 8, 19, 21, 23, 26)),
         ("initiation", "-", "0001 0003 616263 0000 0002 6162", []),
         ("termination", "-", "0000 0003 627965 0001 0000 0003", [(12, 13, 11)]),
@@ -353,6 +476,8 @@ class Missing(unittest.TestCase):
     def test_largest_needs(self):
         self.assertEqual(replay.answer(b"split - 030010000004+1048569*00"), "refused 2 at 6 missing 1")
         self.assertEqual(replay.answer(b"split - 030010000004+1048570*00"), "good stop=1048576 tail=1048576 warn=0 length=1048576 type=4")
+        self.assertEqual(replay.answer(b"split - 030010000009+1048569*00"), "refused 2 at 6 missing 1")
+        self.assertEqual(replay.answer(b"split - 030010000009+1048570*00"), "skipped stop=1048576 tail=1048576 warn=0 length=1048576 type=9")
         self.assertEqual(ask("stats", "00000001 0007 ffff"), "refused 2 at 8 missing 65535")
         self.assertEqual(ask("stats", "ffffffff 0007 0000"), "refused 2 at 8 missing 2")
         self.assertEqual(ask("mirroring", "0000 ffff 00", "asn=32,type=0"), "refused 2 at 4 missing 65534")
@@ -766,7 +891,7 @@ class Programs(unittest.TestCase):
     """The programs as they are run."""
 
     STREAM = bytes.fromhex("030000000b040002000141" + "030000000607")
-    LISTING = b"place type length answer\n0 4 11 0\n11 - - 4\nend 11\n"
+    LISTING = b"place type length answer\n0 4 11 0\n11 7 6 skip\nend 17\n"
 
     def run_program(self, name, *arguments, given=b""):
         program = os.path.join(os.path.dirname(os.path.abspath(__file__)), name)
@@ -794,6 +919,18 @@ class Programs(unittest.TestCase):
                     file.write(stream)
             expected = names[0].encode() + b"\n" + self.LISTING + names[1].encode() + b"\nplace type length answer\nend 0\n"
             self.assertEqual(self.run_program("listing.py", *names), expected)
+
+
+    def test_counters(self):
+        """The last report of each peer, in the order in which the peers came; between two of them the message that is to be skipped."""
+        other = HEADER.replace("0a000001", "0a000002")
+        given = framed(7, b"") + report_of(1) + report_of(2, other) + framed(9, b"\xff") + report_of(3)
+        lines = ["10.0.0.1 168430090 7 1", "10.0.0.2 168430090 7 2", "10.0.0.1 168430090 7 3"]
+        self.assertEqual(self.run_program("counters.py", given=given), "".join(f"0 0 {line}\n" for line in lines).encode())
+        last = report_of(3) + bytes.fromhex("03 00000009 09 ffffff") + report_of(2, other)
+        self.assertEqual(self.run_program("counters.py", "last", given=given), last)
+        lines = [lines[2], lines[1]]
+        self.assertEqual(self.run_program("counters.py", given=last), "".join(f"0 0 {line}\n" for line in lines).encode())
 
 
 class NotWritable(unittest.TestCase):
@@ -842,8 +979,8 @@ class NotWritable(unittest.TestCase):
         bad.append(bmp.StatCounter(0, 0, bmp.Raw(bmp.View(21, 0))))
         bad += [bmp.StatCounter(0, 4, bmp.Counter(2**32)), bmp.StatCounter(0, 11, bmp.AfiSafiGauge(1, 256, 1))]
         bad += [counter._replace(unused_afi=1) for counter in good] + [counter._replace(unused_safi=1) for counter in good]
-        for expected, counters in ((0, good), (12, bad)):
-            for counter in counters:
+        for expected, tried in ((0, good), (12, bad)):
+            for counter in tried:
                 self.assertEqual(self.number(bmp.write_stats_report, bmp.StatsReport(1, [counter])), expected, counter)
         self.assertEqual(self.number(bmp.write_stats_report, bmp.StatsReport(2, good[:1])), 12)
         for count, expected in ((64, 0), (65, 12)):
@@ -1002,7 +1139,7 @@ class Message:
 def read_all(stream):
     messages, place = [], 0
     while place < len(stream):
-        header = bmp.split(stream[place:]).record
+        header = bmp.split(stream[place:]).record.header
         messages.append(Message(place, header, stream[place : place + header.msg_len]))
         place += header.msg_len
     return messages

@@ -1,7 +1,7 @@
 -- The header of a message that conforms to RFC 7854 is read, and shown. Assumes nothing.
 use mathlib.Core.Path.{_≡_, refl}
 use mathlib.Core.List.{List, _++_}
-use Prim.Native.Nat.{ℕ, _≤_}
+use Prim.Native.Nat.{ℕ, _^_, _≤_, _<_}
 use native.Mathlib.Omega.{arith}
 use lib.ListN.{length}
 use Rattle.wire.specs.Number as Number
@@ -9,18 +9,19 @@ use Rattle.wire.specs.Bytes.{be, Bytes}
 use Rattle.wire.specs.Exactly.{Shows}
 use Rattle.wire.proofs.Bytes.{bytes-append}
 use Rattle.wire.proofs.Exactly.{shows-good}
-use Rattle.common_header.specs.Grammar.{join, Good}
+use Rattle.common_header.specs.Grammar.{join, AnyType, Good}
 use Rattle.common_header.specs.Read.{reader}
-use Rattle.common_header.specs.Rfc.{Message, bytes, Conforms, reading}
+use Rattle.common_header.specs.Rfc.{Message, messageLength, bytes, Conforms, reading}
 use Rattle.common_header.proofs.Promises.{complete}
 
-pub reading-good : (m : Message) → Conforms m → (rest : List ℕ) → Bytes rest → Good (reading m rest)
+-- whatever its type is
+pub reading-any : (m : Message) → m .kind < 256 → messageLength m < 256 ^ 4 → Bytes (m .body) → (rest : List ℕ) → Bytes rest → AnyType (reading m rest)
+reading-any m kind long body rest rest-bytes =
+    record { version-is = refl; length-fits = long; kind-fits = kind; tail-bytes = bytes-append body rest-bytes }
+
+reading-good : (m : Message) → Conforms m → (rest : List ℕ) → Bytes rest → Good (reading m rest)
 reading-good m c rest rest-bytes =
-    record {
-      any-type =
-          record { version-is = refl; length-fits = c .length-fits; kind-fits = omega (arith, c .type-known); tail-bytes = bytes-append (c .body-bytes) rest-bytes };
-      kind-known = c .type-known;
-    }
+    record { any-type = reading-any m (omega (arith, c .type-known)) (c .length-fits) (c .body-bytes) rest rest-bytes; kind-known = c .type-known }
 
 pub reading-joined : (m : Message) (rest : List ℕ) → join (reading m rest) ≡ bytes m ++ rest
 unfolding be

@@ -22,7 +22,7 @@ fn main() {
     print_stream(&input[..n]);
 }
 
-// One message after the other, up to the end or to the first that is not whole.
+// One message after the other, skipped ones too, up to the end or to the first that is refused.
 fn print_stream(s: &[u8]) {
     let mut at: usize = 0;
     while at < s.len() {
@@ -36,12 +36,22 @@ fn print_next(s: &[u8], at: usize) -> usize
     ensures { λ r. ⌜ (at < r) × (r ≤ length (now (s .entry))) ⌝ }
 {
     let rest = behind(s, at);
-    let SplitAnswer::Message(header, message) = splitter::split_message(rest) else {
-        return s.len();
-    };
-    let msg_type = header.msg_type;
-    print_message(msg_type, message.part(rest));
-    // That a message has bytes, and that they are there, the splitter promises; to test it takes no proof.
+    match splitter::split_message(rest) {
+        SplitAnswer::Refused(_) => s.len(),
+        SplitAnswer::Skipped(_, message) => past(s, at, message),
+        SplitAnswer::Message(header, message) => {
+            let msg_type = header.msg_type;
+            print_message(msg_type, message.part(rest));
+            past(s, at, message)
+        }
+    }
+}
+
+// That a message has bytes, and that they are there, the splitter promises; to test it takes no proof.
+fn past(s: &[u8], at: usize, message: View) -> usize
+    requires { ⌜ at < length (now s) ⌝ }
+    ensures { λ r. ⌜ (at < r) × (r ≤ length (now (s .entry))) ⌝ }
+{
     if message.length == 0 {
         return s.len();
     }

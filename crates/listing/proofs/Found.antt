@@ -11,12 +11,14 @@ use Rattle.wire.specs.declared.Refusal.{Refusal}
 use Rattle.wire.specs.declared.View.{View}
 use Rattle.common_header.specs.Shown.{kindOf}
 use Rattle.common_header.specs.declared.BmpCommonHeader.{BmpCommonHeader}
+use Rattle.common_header.specs.declared.CommonFields.{CommonFields}
 use Rattle.splitter.specs.Read.{splitOf}
 use Rattle.splitter.specs.declared.SplitAnswer.{SplitAnswer}
 use Rattle.message_answer.specs.Answer.{answerOf}
 use Rattle.listing.specs.Steps.{rowAt}
+use Rattle.listing.specs.declared.Answer.{Answer}
 use Rattle.listing.specs.declared.Row.{Row}
-use Rattle.listing.proofs.Rows.{split-off}
+use Rattle.listing.proofs.Rows.{known-stands}
 
 -- all from a place on
 abbrev pub from : ℕ → List ℕ → List ℕ
@@ -33,11 +35,15 @@ module _ (s : List ℕ) (at : ℕ) where
     pub row-refused : (r : Refusal) → splitOf (from at s) ≡ SplitAnswer.Refused r → Row.Refused (r .number) ≡ rowAt (drop at s)
     row-refused r e = sym (ap rowAt (sym (from-is at s)) ∙ rw (ne-eqb (length (from at s)) 0 some, e))
 
+    pub row-skipped : (f : CommonFields) (v : View) → splitOf (from at s) ≡ SplitAnswer.Skipped f v → Row.Message (f .kind) (f .«msg_len») Answer.Skip ≡ rowAt (drop at s)
+    row-skipped f v e = sym (ap rowAt (sym (from-is at s)) ∙ rw (ne-eqb (length (from at s)) 0 some, e))
+
     module _ (h : BmpCommonHeader) (v : View) (e : splitOf (from at s) ≡ SplitAnswer.Message h v) (whole : List ℕ) (w : whole ≡ viewed (from at s) v) where
       pub whole-header : 6 ≤ length whole
-      whole-header = let x = split-off (from at s) h v e in omega (arith, ap length w, x .long, x .fits .least)
+      whole-header = let x = known-stands (from at s) v h e in omega (arith, ap length w, x .length-is, x .fits .least)
 
-      pub row-message : (k a : ℕ) → k ≡ kindOf (h .«msg_type») → a ≡ answerOf (h .«msg_type») (from 6 whole) → Row.Message k (h .«msg_len») a ≡ rowAt (drop at s)
+      pub row-message : (k a : ℕ) → k ≡ kindOf (h .«msg_type») → a ≡ answerOf (h .«msg_type») (from 6 whole)
+          → Row.Message k (h .«msg_len») (Answer.Number a) ≡ rowAt (drop at s)
       row-message k a f g =
           let rest : from 6 whole ≡ drop 6 (viewed (from at s) v) = from-is 6 whole ∙ ap (drop 6) w in
           sym (ap rowAt (sym (from-is at s)) ∙ rw (ne-eqb (length (from at s)) 0 some, e) (rw (f, g, rest)))

@@ -14,54 +14,60 @@ use Rattle.writing.specs.Write.{after, Wrote}
 use Rattle.writing.specs.declared.WriteAnswer.{WriteAnswer}
 use Rattle.writing.specs.declared.WriteAnswer.the-variants.{Written, Refused}
 use Rattle.writing.proofs.Answers.{does-write, wrote-determined}
-use Rattle.message_answer.specs.Grammar.{HasReading}
+use Rattle.common_header.specs.Shown.{kindOf}
+use Rattle.splitter.specs.Shown.{ByItsType}
+use Rattle.splitter.proofs.Promises.{by-its-type}
+use Rattle.message_answer.specs.Grammar.{GoodExactly}
 use Rattle.message_answer.proofs.Promises as MessageAnswer
-use Rattle.listing.specs.Listing.{longest, Message, answer, found, text, enough}
+use Rattle.listing.specs.Listing.{longest, Message, known, skipped, numberOf, found, text, enough}
 use Rattle.listing.proofs.Lengths.{text-short}
-use Rattle.listing.proofs.Messages.{Stands, Each, Walks, walks, each-so}
+use Rattle.listing.proofs.Messages.{Each, Walks, walks, each-so}
+use Rattle.listing.proofs.Rows.{Stands}
 
 -- ---- the answer and the output of list_messages
-module _ (s out out′ : List ℕ) (r : WriteAnswer) (wrote : Wrote true (text s) out r out′) where
+module _ (s out out′ : List ℕ) (p : Bytes s) (r : WriteAnswer) (wrote : Wrote true (text s) out r out′) where
   output : out′ ≡ after r (text s) out
   output = wrote .left ∙ ap (λ (x : WriteAnswer). after x (text s) out) (sym (wrote .answered))
 
   -- Where the output has room for the text, the text stands at its start, and nothing past it differs.
   pub lists : length (text s) ≤ length out → (r ≡ Written (length (text s))) × (out′ ≡ text s ++ drop (length (text s)) out)
   lists h =
-      let e : r ≡ Written (length (text s)) = wrote .answered ∙ does-write true (length (text s)) (length out) refl (omega (arith, text-short s)) h in
+      let e : r ≡ Written (length (text s)) = wrote .answered ∙ does-write true (length (text s)) (length out) refl (omega (arith, text-short s p)) h in
       (e, output ∙ ap (λ (x : WriteAnswer). after x (text s) out) e)
 
   -- Where it has not, the answer is NoRoom and no byte differs: there is no other refusal.
   pub no-room : length out < length (text s) → (r ≡ Refused (refusal Number.NoRoom 0)) × (out′ ≡ out)
   no-room h =
       let e : r ≡ Refused (refusal Number.NoRoom 0) =
-      wrote .answered ∙ rw (le-ltb Number.limit (length (text s)) (omega (arith, text-short s)), lt-ltb (length out) (length (text s)) h) in
+      wrote .answered ∙ rw (le-ltb Number.limit (length (text s)) (omega (arith, text-short s p)), lt-ltb (length out) (length (text s)) h) in
       (e, output ∙ ap (λ (x : WriteAnswer). after x (text s) out) e)
 
 -- An output of `enough` bytes has room for the listing of any stream, also of one that is too long.
-pub size-suffices : (s : List ℕ) → length (text s) ≤ enough
+pub size-suffices : (s : List ℕ) → Bytes s → length (text s) ≤ enough
 size-suffices = text-short
 
 -- ---- the messages that are listed
--- In a stream that is not too long, the splitter hands out each listed message at its place; the messages and then what stands
+-- In a stream that is not too long, the splitter hands out or skips each listed message at its place; the messages and then what stands
 -- from the last line's place on are the stream; and there nothing is left, or the splitter refuses with the number listed.
 pub messages : (s : List ℕ) → length s ≤ longest → Walks s 0 (found s)
 messages s h = rw (le-ltb longest (length s) h) (walks (length s) 0 s (omega arith) (omega arith))
 
--- A line's answer is 0 exactly where what follows the message's common header has a reading: its per-peer header and its body, by
--- their grammars, and both fit the tables.
-abbrev pub GoodIfRead : ℕ → Message → Type 0
-GoodIfRead at m =
-    (answer m ≡ Number.Good → HasReading (m .header .«msg_type») (drop 6 (m .bytes)))
-    × (HasReading (m .header .«msg_type») (drop 6 (m .bytes)) → answer m ≡ Number.Good)
+-- A message of types 0 to 6 is answered with a number, which is 0 exactly where what follows its common header has a reading: its per-peer header
+-- and its body, by their grammars, and both fit the tables. One of any other type is skipped.
+abbrev pub Answered : ℕ → Message → Type 0
+Answered at (known h b) = (kindOf (h .«msg_type») ≤ 6) × GoodExactly (h .«msg_type») (drop 6 b) (numberOf h b)
+Answered at (skipped f b) = 6 < f .kind
 
-pub answer-good : (s : List ℕ) → Bytes s → length s ≤ longest → Each GoodIfRead 0 (found s .items)
-answer-good s p h = each-so (Stands s) GoodIfRead good 0 (found s .items) (messages s h .each)
+pub answer-good : (s : List ℕ) → Bytes s → length s ≤ longest → Each Answered 0 (found s .items)
+answer-good s p h = each-so (λ at m. Stands (drop at s) m) Answered good 0 (found s .items) (messages s h .each)
   where
-    good : (at : ℕ) (m : Message) → Stands s at m → GoodIfRead at m
-    good at m x =
-        MessageAnswer.answer-good (m .header .«msg_type») (drop 6 (m .bytes))
-        (bytes-drop 6 (subst Bytes (sym (x .bytes-are)) (bytes-take (m .header .«msg_len») (bytes-drop at p))))
+    good : (at : ℕ) (m : Message) → Stands (drop at s) m → Answered at m
+    good at (known t b) x = (
+      subst ByItsType (x .split-so) (by-its-type (drop at s)),
+      MessageAnswer.answer-good (t .«msg_type») (drop 6 b)
+          (bytes-drop 6 (subst Bytes (sym (x .bytes-are)) (bytes-take (t .«msg_len») (bytes-drop at p)))),
+    )
+    good at (skipped f b) x = subst ByItsType (x .split-so) (by-its-type (drop at s))
 
 -- ---- any two answers, and any two outputs, that the contract allows are equal
 pub list-determined : (s out : List ℕ) (r q : WriteAnswer) (out′ out″ : List ℕ)

@@ -8,57 +8,98 @@ use borrow.Author.Tests.{eqb-true}
 use lib.Dec.{eqb}
 use lib.ListN.{length, take, drop}
 use lib.Seq.{drop-drop, length-take-le}
-use Rattle.wire.specs.Bytes.{pick}
+use Rattle.wire.specs.Number as Number
+use Rattle.wire.specs.Bytes.{pick, Bytes}
 use Rattle.wire.specs.View.{view, viewed}
 use Rattle.wire.specs.Walk.{Step, stop, bad, item, walk, next}
 use Rattle.wire.specs.declared.Refusal.{Refusal}
 use Rattle.wire.specs.declared.View.{View}
-use Rattle.wire.proofs.Views.{viewed-inside}
-use Rattle.common_header.specs.Read.{readCommonHeader}
-use Rattle.common_header.specs.declared.BmpCommonHeader.{BmpCommonHeader}
-use Rattle.common_header.specs.declared.CommonHeaderAnswer.{CommonHeaderAnswer}
-use Rattle.common_header.proofs.Promises.{kind-known}
-use Rattle.splitter.specs.Shown.{refusalOf}
-use Rattle.splitter.specs.Read.{afterHeader, splitOf}
-use Rattle.splitter.specs.declared.SplitAnswer.{SplitAnswer}
-use Rattle.splitter.proofs.Laws.{Fitting, fitting-shown, judged-good}
 use Rattle.wire.proofs.Refuses.{numbers-below}
+use Rattle.wire.proofs.Views.{viewed-inside}
+use Rattle.common_header.specs.Fields as Fields
+use Rattle.common_header.specs.declared.BmpCommonHeader.{BmpCommonHeader}
+use Rattle.common_header.specs.declared.CommonFields.{CommonFields}
+use Rattle.common_header.specs.declared.CommonFieldsAnswer.{CommonFieldsAnswer}
+use Rattle.splitter.specs.Grammar.{headerOf}
+use Rattle.splitter.specs.Shown.{handedOut, refusalOf, messageOf, fieldsIn}
 use Rattle.splitter.specs.Read as SplitterRead
+use Rattle.splitter.specs.Read.{afterFields, splitOf}
+use Rattle.splitter.specs.declared.SplitAnswer.{SplitAnswer}
+use Rattle.splitter.proofs.Laws.{Fitting, fitting-shown, judged-good, hands-out}
 use Rattle.splitter.proofs.Promises as Splitter
+use Rattle.decimal.proofs.Promises.{at-most}
 use Rattle.message_answer.proofs.Promises.{answer-small}
 use Rattle.listing.specs.Text.{messageLine, refusedLine, endLine}
-use Rattle.listing.specs.Listing.{Message, asStep, step, kit, lines}
-use Rattle.listing.specs.Steps.{linesFrom, rowOf, rowAt}
+use Rattle.listing.specs.Listing.{Message, known, skipped, fieldsOf, lengthOf, numberOf, answer, asStep, step, kit, lines}
+use Rattle.listing.specs.Steps.{linesFrom, answered, saying, rowOf, rowAt}
 use Rattle.listing.specs.declared.Row.{Row}
 
--- ---- what the splitter hands out: the first bytes, as many as the header's length says
-pub record Split-off (s : List ℕ) (h : BmpCommonHeader) (v : View) : Type 0 where
-  pub fits : Fitting (length s) (h .«msg_len»)
-  pub view-is : v ≡ view 0 (h .«msg_len»)
-  pub bytes-are : viewed s v ≡ take (h .«msg_len») s
-  pub long : length (viewed s v) ≡ h .«msg_len»
+-- ---- a message that stands at the front of some bytes: the splitter hands it out or skips it, and its bytes are the first, as many as its length says
+abbrev pub bytesOf : Message → List ℕ
+bytesOf (known h b) = b
+bytesOf (skipped f b) = b
 
-view-of : (there : ℕ) (a : CommonHeaderAnswer) (h : BmpCommonHeader) (v : View) → afterHeader there a ≡ SplitAnswer.Message h v
-    → Fitting there (h .«msg_len») × (v ≡ view 0 (h .«msg_len»))
-view-of there (CommonHeaderAnswer.Good g end) h v e =
-    let f = judged-good there g (ap (λ (x : SplitAnswer). refusalOf x .number) e) in
-    let q : SplitAnswer.Message g (view 0 (g .«msg_len»)) ≡ SplitAnswer.Message h v = sym (fitting-shown there g f) ∙ e in
-    let x : g ≡ h = cc in
-    let y : view 0 (g .«msg_len») ≡ v = cc in
-    (subst (λ (z : BmpCommonHeader). Fitting there (z .«msg_len»)) x f, sym y ∙ ap (λ (z : BmpCommonHeader). view 0 (z .«msg_len»)) x)
-view-of there (CommonHeaderAnswer.Refused r) h v e = let z : _≡_ {A = ℕ} 0 1 = cc in absurd (omega arith)
+abbrev pub splitAs : Message → SplitAnswer
+splitAs (known h b) = SplitAnswer.Message h (view 0 (h .«msg_len»))
+splitAs (skipped f b) = SplitAnswer.Skipped f (view 0 (f .«msg_len»))
 
-pub split-off : (s : List ℕ) (h : BmpCommonHeader) (v : View) → splitOf s ≡ SplitAnswer.Message h v → Split-off s h v
-split-off s h v e =
-    let x = view-of (length s) (readCommonHeader s) h v e in
-    let y : viewed s v ≡ take (h .«msg_len») s = rw (x .1) (viewed-inside s (view 0 (h .«msg_len»)) (omega (arith, x .0 .all-there))) in
-    record { fits = x .0; view-is = x .1; bytes-are = y; long = ap length y ∙ length-take-le (h .«msg_len») s (x .0 .all-there) }
+pub record Stands (s : List ℕ) (m : Message) : Type 0 where
+  pub split-so : splitOf s ≡ splitAs m
+  pub fits : Fitting (length s) (lengthOf m)
+  pub bytes-are : bytesOf m ≡ take (lengthOf m) s
+  pub length-is : length (bytesOf m) ≡ lengthOf m
+
+-- an answer that is no refusal
+abbrev Handed : SplitAnswer → Type 0
+Handed (SplitAnswer.Message h v) = Unit {0}
+Handed (SplitAnswer.Skipped f v) = Unit {0}
+Handed (SplitAnswer.Refused r) = ⊥
+
+handed-good : (a : SplitAnswer) → Handed a → refusalOf a .number ≡ Number.Good
+handed-good (SplitAnswer.Message h v) x = refl
+handed-good (SplitAnswer.Skipped f v) x = refl
+handed-good (SplitAnswer.Refused r) x = absurd x
+
+-- its length fits, and its view is of the first bytes, as many as that says
+record Split-off (there : ℕ) (a : SplitAnswer) : Type 0 where
+  fits : Fitting there (fieldsIn a .«msg_len»)
+  view-is : messageOf a ≡ view 0 (fieldsIn a .«msg_len»)
+
+split-off : (there : ℕ) (x : CommonFieldsAnswer) (a : SplitAnswer) → afterFields there x ≡ a → Handed a → Split-off there a
+split-off there (CommonFieldsAnswer.Good f) a e h =
+    let x = judged-good there f (ap (λ (y : SplitAnswer). refusalOf y .number) e ∙ handed-good a h) in
+    let out = hands-out f (view 0 (f .«msg_len»)) in
+    let is-a : handedOut f (view 0 (f .«msg_len»)) ≡ a = sym (fitting-shown there f x) ∙ e in
+    let fields-are : f ≡ fieldsIn a = sym (out .fields-are) ∙ ap fieldsIn is-a in
+    record {
+      fits = subst (λ (y : CommonFields). Fitting there (y .«msg_len»)) fields-are x;
+      view-is = ap messageOf (sym is-a) ∙ out .view-is ∙ ap (λ (y : CommonFields). view 0 (y .«msg_len»)) fields-are;
+    }
+split-off there (CommonFieldsAnswer.Refused r) a e h = absurd (subst Handed (sym e) h)
+
+first : (s : List ℕ) (v : View) (n : ℕ) → Fitting (length s) n → v ≡ view 0 n → (viewed s v ≡ take n s) × (length (viewed s v) ≡ n)
+first s v n f e =
+    let bytes-are : viewed s v ≡ take n s = rw e (viewed-inside s (view 0 n) (omega (arith, f .all-there))) in
+    (bytes-are, ap length bytes-are ∙ length-take-le n s (f .all-there))
+
+module _ (s : List ℕ) (v : View) where
+  pub known-stands : (h : BmpCommonHeader) → splitOf s ≡ SplitAnswer.Message h v → Stands s (known h (viewed s v))
+  known-stands h e =
+      let o = split-off (length s) (Fields.readCommonFields s) (SplitAnswer.Message h v) e tt in
+      let x = first s v (h .«msg_len») (o .fits) (o .view-is) in
+      record { split-so = e ∙ ap (SplitAnswer.Message h) (o .view-is); fits = o .fits; bytes-are = x .0; length-is = x .1 }
+
+  pub skipped-stands : (f : CommonFields) → splitOf s ≡ SplitAnswer.Skipped f v → Stands s (skipped f (viewed s v))
+  skipped-stands f e =
+      let o = split-off (length s) (Fields.readCommonFields s) (SplitAnswer.Skipped f v) e tt in
+      let x = first s v (f .«msg_len») (o .fits) (o .view-is) in
+      record { split-so = e ∙ ap (SplitAnswer.Skipped f) (o .view-is); fits = o .fits; bytes-are = x .0; length-is = x .1 }
 
 -- ---- the cases of a step
 pub data Seen (s : List ℕ) : Step Message → Type 0 where
   none : length s ≡ 0 → Seen s stop
   refused : (r : Refusal) → splitOf s ≡ SplitAnswer.Refused r → Seen s (bad r)
-  message : (h : BmpCommonHeader) (v : View) → splitOf s ≡ SplitAnswer.Message h v → Seen s (item (record { header = h; bytes = viewed s v }))
+  message : (m : Message) → Stands s m → Seen s (item m)
 
 pub see : (s : List ℕ) → Seen s (step s)
 see s = go (eqb (length s) 0) refl (splitOf s) refl
@@ -66,39 +107,79 @@ see s = go (eqb (length s) 0) refl (splitOf s) refl
     go : (b : Bool) → eqb (length s) 0 ≡ b → (x : SplitAnswer) → splitOf s ≡ x → Seen s (pick b stop (asStep s x))
     go true e x q = none (eqb-true (length s) 0 e)
     go false e (SplitAnswer.Refused r) q = refused r q
-    go false e (SplitAnswer.Message h v) q = message h v q
+    go false e (SplitAnswer.Message h v) q = message (known h (viewed s v)) (known-stands s v h q)
+    go false e (SplitAnswer.Skipped f v) q = message (skipped f (viewed s v)) (skipped-stands s v f q)
 
 -- ---- what a row tells of the bytes at whose front it stands
 abbrev pub Tells : List ℕ → Row → Type 0
 Tells s Row.End = length s ≡ 0
 Tells s (Row.Refused n) = n ≤ 10
-Tells s (Row.Message k n a) = ((6 ≤ n) × (n ≤ length s)) × ((k ≤ 6) × (a < 256))
+Tells s (Row.Message k n a) = (6 ≤ n) × (n ≤ length s)
 
 tells-of : (s : List ℕ) {x : Step Message} → Seen s x → Tells s (rowOf x)
 tells-of s (none e) = e
 tells-of s (refused r e) = let h = numbers-below SplitterRead.reader Splitter.refuses 11 refl s in subst (λ (x : SplitAnswer). refusalOf x .number ≤ 10) e (omega (arith, h))
-tells-of s (message h v e) =
-    let f = split-off s h v e .fits in
-    ((f .least, f .all-there), (kind-known (h .«msg_type»), answer-small (h .«msg_type») (drop 6 (viewed s v))))
+tells-of s (message m x) = (x .fits .least, x .fits .all-there)
 
 pub row-tells : (s : List ℕ) → Tells s (rowAt s)
 row-tells s = tells-of s (see s)
+
+-- ---- and how short its type and its answer are
+abbrev pub Short : Row → Type 0
+Short Row.End = Unit {0}
+Short (Row.Refused n) = Unit {0}
+Short (Row.Message k n a) = (k < 256) × (length (saying a) ≤ 4)
+
+kind-fits : (s : List ℕ) → Bytes s → (m : Message) → Stands s m → fieldsOf m .kind < 256
+kind-fits s p m x =
+    let r = Splitter.sound s p (ap (λ (a : SplitAnswer). refusalOf a .number) (x .split-so) ∙ good m) in
+    let out = hands-out (Fields.fieldsOf (headerOf (r .0))) (view 0 (r .0 .length)) in
+    let same : Fields.fieldsOf (headerOf (r .0)) ≡ fieldsOf m =
+    sym (out .fields-are) ∙ ap fieldsIn (sym (r .1 .shown-so) ∙ x .split-so) ∙ fields m in
+    subst (λ (f : CommonFields). f .kind < 256) same (r .1 .reading .is-good .header-good .kind-fits)
+  where
+    good : (m : Message) → refusalOf (splitAs m) .number ≡ Number.Good
+    good (known h b) = refl
+    good (skipped f b) = refl
+
+    fields : (m : Message) → fieldsIn (splitAs m) ≡ fieldsOf m
+    fields (known h b) = refl
+    fields (skipped f b) = refl
+
+answer-fits : (m : Message) → length (saying (answered m)) ≤ 4
+answer-fits (known h b) =
+    let small = answer-small (h .«msg_type») (drop 6 b) in
+    let digits = at-most 2 (numberOf h b) (omega (arith, small)) in
+    omega (arith, digits)
+answer-fits (skipped f b) = omega arith
+
+short-of : (s : List ℕ) → Bytes s → {x : Step Message} → Seen s x → Short (rowOf x)
+short-of s p (none e) = tt
+short-of s p (refused r e) = tt
+short-of s p (message m x) = (kind-fits s p m x, answer-fits m)
+
+pub row-short : (s : List ℕ) → Bytes s → Short (rowAt s)
+row-short s p = short-of s p (see s)
 
 -- ---- the lines from a place on, by the row that stands there
 abbrev pub byRow : ℕ → ℕ → List ℕ → Row → List ℕ
 byRow f at s Row.End = endLine at
 byRow f at s (Row.Refused n) = refusedLine at n ++ endLine at
-byRow f at s (Row.Message k n a) = messageLine at k n a ++ linesFrom f (at + n) s
+byRow f at s (Row.Message k n a) = messageLine at k n (saying a) ++ linesFrom f (at + n) s
+
+says : (m : Message) → answer m ≡ saying (answered m)
+says (known h b) = refl
+says (skipped f b) = refl
 
 pub by-row : (f at : ℕ) (s : List ℕ) → linesFrom (suc f) at s ≡ byRow f at s (rowAt (drop at s))
 unfolding walk
 by-row f at s = go (step (drop at s))
   where
-    go : (x : Step Message) → lines at (next x (drop at s) (λ m. walk kit f (drop (m .header .«msg_len») (drop at s))) .items)
-        (next x (drop at s) (λ m. walk kit f (drop (m .header .«msg_len») (drop at s))) .end) ≡ byRow f at s (rowOf x)
+    go : (x : Step Message) → lines at (next x (drop at s) (λ m. walk kit f (drop (lengthOf m) (drop at s))) .items)
+        (next x (drop at s) (λ m. walk kit f (drop (lengthOf m) (drop at s))) .end) ≡ byRow f at s (rowOf x)
     go stop = refl
     go (bad r) = refl
-    go (item m) = rw (drop-drop (m .header .«msg_len») at s)
+    go (item m) = rw (drop-drop (lengthOf m) at s, says m)
 
 -- where there are as many turns left as bytes
 pub lines-by-row : (f at : ℕ) (s : List ℕ) → length (drop at s) ≤ f → linesFrom f at s ≡ byRow (f - 1) at s (rowAt (drop at s))

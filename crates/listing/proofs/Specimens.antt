@@ -14,15 +14,15 @@ use Rattle.listing.specs.Text.{ascii}
 use Rattle.listing.specs.Listing.{longest, text}
 use Rattle.listing.proofs.Whole.{text-too-long}
 
--- an Initiation message with one TLV, 03 0000000b 04 0002000141, and then a header of an unknown type, 03 00000006 07
+-- an Initiation message with one TLV, 03 0000000b 04 0002000141, and then one of an unknown type, 03 00000006 07
 abbrev stream : List ℕ
 stream = 3 ∷ 0 ∷ 0 ∷ 0 ∷ 11 ∷ 4 ∷ 0 ∷ 2 ∷ 0 ∷ 1 ∷ 65 ∷ 3 ∷ 0 ∷ 0 ∷ 0 ∷ 6 ∷ 7 ∷ []
 
 pub example : text stream
     ≡ ascii "place type length answer\n"
     ++ (ascii "0 4 11 0\n"
-    ++ (ascii "11 - - 4\n"
-    ++ ascii "end 11\n"))
+    ++ (ascii "11 7 6 skip\n"
+    ++ ascii "end 17\n"))
 unfolding value walk fill typeOf kindOf readFields step digitsIn answerOf text
 example = refl
 

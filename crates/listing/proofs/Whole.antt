@@ -8,6 +8,7 @@ use native.Mathlib.Nat.{zero-add}
 use borrow.Author.Tests.{lt-ltb, le-ltb}
 use lib.ListN.{length}
 use Rattle.wire.specs.Number as Number
+use Rattle.wire.specs.Bytes.{Bytes}
 use Rattle.writing.specs.Write.{putAt, writeAnswer, Wrote}
 use Rattle.writing.specs.declared.WriteAnswer.the-variants.{Written}
 use Rattle.writing.proofs.Answers.{does-write, put-there}
@@ -26,8 +27,8 @@ unfolding text
 text-listed s h = rw (le-ltb longest (length s) h)
 
 module _ (s b : List ℕ) (e : text s ≡ heading ++ b) where
-  pub asks-behind : 25 + length b ≤ enough
-  asks-behind = omega (arith, text-short s, ap length e)
+  pub asks-behind : Bytes s → 25 + length b ≤ enough
+  asks-behind p = omega (arith, text-short s p, ap length e)
 
   pub put-behind : (l p q : List ℕ) (k : ℕ) → length p ≡ length l → p ≡ putAt l 0 heading → Ends p 25 b q k → (k ≡ length (text s)) × Puts l 0 (text s) q
   put-behind l p q k long f x =
@@ -35,10 +36,10 @@ module _ (s b : List ℕ) (e : text s ≡ heading ++ b) where
       (y .0 ∙ zero-add (length (text s)), y .1)
 
 -- an output that has room for any text takes it at once
-pub written-at-once : (s out out′ : List ℕ) (k : ℕ) → enough ≤ length out → k ≡ length (text s) → Puts out 0 (text s) out′
+pub written-at-once : (s out out′ : List ℕ) (k : ℕ) → Bytes s → enough ≤ length out → k ≡ length (text s) → Puts out 0 (text s) out′
     → Wrote true (text s) out (Written k) out′
-written-at-once s out out′ k h e p =
-    let n = text-short s in
+written-at-once s out out′ k b h e p =
+    let n = text-short s b in
     let asked : Written k ≡ writeAnswer true k (length out) =
     sym (does-write true k (length out) refl (omega (arith, n, e)) (omega (arith, n, e, h))) in
     put-there true (text s) out k (λ _. sym e) (Written k) asked k refl out′ (p (omega (arith, n, h)))

@@ -8,29 +8,44 @@ use Rattle.wire.specs.Bytes.{pick}
 use Rattle.wire.specs.Refusal.{refusal}
 use Rattle.wire.specs.View.{viewed}
 use Rattle.wire.specs.Walk.{Step, stop, bad, item, End, tail, fault, Walked, Kit, walk}
-use Rattle.common_header.specs.Shown.{kindOf}
+use Rattle.common_header.specs.Shown.{numbered}
 use Rattle.common_header.specs.declared.BmpCommonHeader.{BmpCommonHeader}
+use Rattle.common_header.specs.declared.CommonFields.{CommonFields}
 use Rattle.splitter.specs.Read.{splitOf}
 use Rattle.splitter.specs.declared.SplitAnswer.{SplitAnswer}
 use Rattle.message_answer.specs.Answer.{answerOf}
-use Rattle.listing.specs.Text.{heading, messageLine, refusedLine, endLine}
+use Rattle.decimal.specs.Decimal.{decimal}
+use Rattle.listing.specs.Text.{heading, messageLine, skip, refusedLine, endLine}
 
 -- the longest stream that is listed
 abbrev pub longest : ℕ
 longest = 65536
 
--- a message that was split off: its common header, and all of its bytes
-pub record Message : Type 0 where
-  pub header : BmpCommonHeader
-  pub bytes : List ℕ
+-- a message that was split off, and all of its bytes: of a known type with its common header, or skipped, with the fields of that
+pub data Message : Type 0 where
+  known : BmpCommonHeader → List ℕ → Message
+  skipped : CommonFields → List ℕ → Message
 
--- the number of the message itself: its type says how what follows the six bytes of the common header is read
-abbrev pub answer : Message → ℕ
-answer m = answerOf (m .header .«msg_type») (drop 6 (m .bytes))
+abbrev pub fieldsOf : Message → CommonFields
+fieldsOf (known h b) = numbered h
+fieldsOf (skipped f b) = f
+
+abbrev pub lengthOf : Message → ℕ
+lengthOf m = fieldsOf m .«msg_len»
+
+-- the number of a message of this type, which says how what follows the six bytes of the common header is read
+abbrev pub numberOf : BmpCommonHeader → List ℕ → ℕ
+numberOf h b = answerOf (h .«msg_type») (drop 6 b)
+
+-- what a message is answered with; of one that is skipped no byte behind the header is looked at
+abbrev pub answer : Message → List ℕ
+answer (known h b) = decimal (numberOf h b)
+answer (skipped f b) = skip
 
 -- ---- the messages of a stream
 abbrev pub asStep : List ℕ → SplitAnswer → Step Message
-asStep s (SplitAnswer.Message h v) = item (record { header = h; bytes = viewed s v })
+asStep s (SplitAnswer.Message h v) = item (known h (viewed s v))
+asStep s (SplitAnswer.Skipped f v) = item (skipped f (viewed s v))
 asStep s (SplitAnswer.Refused r) = bad r
 
 -- the splitter is asked while bytes are left
@@ -44,7 +59,7 @@ kit =
       Item = Message;
       Entry = Unit {0};
       step = step;
-      size = λ m. m .header .«msg_len»;
+      size = lengthOf;
       entry = λ at m. tt;
       none = tt;
       limit = 0;
@@ -60,13 +75,12 @@ found s = pick (ltb longest (length s)) (record { items = []; end = fault (refus
 abbrev pub lines : ℕ → List Message → End → List ℕ
 lines at [] (tail z) = endLine at
 lines at [] (fault r) = refusedLine at (r .number) ++ endLine at
-lines at (m ∷ l) e =
-    messageLine at (kindOf (m .header .«msg_type»)) (m .header .«msg_len») (answer m) ++ lines (at + m .header .«msg_len») l e
+lines at (m ∷ l) e = messageLine at (fieldsOf m .kind) (lengthOf m) (answer m) ++ lines (at + lengthOf m) l e
 
 unfoldable pub text : List ℕ → List ℕ
 text s = heading ++ lines 0 (found s .items) (found s .end)
 
--- a text of this length at most: 25 bytes of heading, 3 for each byte of the stream (a message has at least 6, and its line at
--- most 18), 13 for a refusal, 10 for the last line
+-- a text of this length at most, if the stream is of bytes: 25 bytes of heading, 3 for each byte of the stream (a message has at least 6, and its
+-- line at most 17 where its length has one digit, 21 where it has more), 13 for a refusal, 10 for the last line
 abbrev pub enough : ℕ
 enough = 196656

@@ -2,8 +2,9 @@
 --
 --     place type length answer     the heading
 --     0 4 11 0                     a message: its place in the stream, its type, its length and the number that it is answered with
---     11 - - 4                     no message is split off here: the place, and the number of the splitter's refusal
---     end 11                       the place after the last message
+--     11 7 6 skip                  a message of a type that RFC 7854 does not have, in the same way: it is skipped
+--     17 - - 3                     no message is split off here: the place, and the number of the splitter's refusal
+--     end 17                       the place after the last message
 use Prim.Native.Nat.{ℕ}
 use Prim.Native.Char.{code}
 use Prim.Native.String.{String}
@@ -25,8 +26,12 @@ line (f ∷ g ∷ l) = f ++ (ascii " " ++ line (g ∷ l))
 abbrev pub heading : List ℕ
 heading = line (ascii "place" ∷ ascii "type" ∷ ascii "length" ∷ ascii "answer" ∷ [])
 
-abbrev pub messageLine : (place kind length answer : ℕ) → List ℕ
-messageLine place kind length answer = line (decimal place ∷ decimal kind ∷ decimal length ∷ decimal answer ∷ [])
+abbrev pub messageLine : (place kind length : ℕ) → (answer : List ℕ) → List ℕ
+messageLine place kind length answer = line (decimal place ∷ decimal kind ∷ decimal length ∷ answer ∷ [])
+
+-- the answer of a message that is skipped
+abbrev pub skip : List ℕ
+skip = ascii "skip"
 
 abbrev pub refusedLine : (place number : ℕ) → List ℕ
 refusedLine place number = line (decimal place ∷ ascii "-" ∷ ascii "-" ∷ decimal number ∷ [])

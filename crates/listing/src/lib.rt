@@ -11,7 +11,7 @@ ghost use Rattle.writing.specs.Write.{Wrote};
 ghost use Rattle.decimal.specs.Decimal.{decimal};
 ghost use Rattle.listing.specs.Text.{messageLine, refusedLine, endLine};
 ghost use Rattle.listing.specs.Listing.{longest, enough, text};
-ghost use Rattle.listing.specs.Steps.{linesFrom, rowAt, Puts};
+ghost use Rattle.listing.specs.Steps.{linesFrom, saying, rowAt, Puts};
 
 // The longest stream that is listed.
 pub const LONGEST: usize = 65_536;
@@ -19,10 +19,16 @@ pub const LONGEST: usize = 65_536;
 // An output of this size has room for every listing.
 pub const ENOUGH: usize = 196_656;
 
+// What a message is answered with: a number, or that it is skipped.
+enum Answer {
+    Number(usize),
+    Skip,
+}
+
 // What stands at a place of a stream: nothing more, the type, length and answer of a message, or why none is split off.
 enum Row {
     End,
-    Message(usize, usize, usize),
+    Message(usize, usize, Answer),
     Refused(usize),
 }
 
@@ -85,7 +91,6 @@ fn row_at(s: &[u8], at: usize) -> Row
         return Row::End;
     }
     match splitter::split_message(rest) {
-        SplitAnswer::Refused(refusal) => Row::Refused(refusal.number as usize),
         SplitAnswer::Message(header, message) => {
             let msg_type = header.msg_type;
             let whole = message.part(rest);
@@ -93,9 +98,13 @@ fn row_at(s: &[u8], at: usize) -> Row
             Row::Message(
                 common_header::kind_of(msg_type) as usize,
                 header.msg_len as usize,
-                answer as usize,
+                Answer::Number(answer as usize),
             )
         }
+        SplitAnswer::Skipped(fields, _) => {
+            Row::Message(fields.kind as usize, fields.msg_len as usize, Answer::Skip)
+        }
+        SplitAnswer::Refused(refusal) => Row::Refused(refusal.number as usize),
     }
 }
 
@@ -105,16 +114,31 @@ fn put_message_line(
     place: usize,
     kind: usize,
     msg_len: usize,
-    answer: usize,
+    answer: Answer,
 ) -> usize
-    requires { ⌜ at + length (messageLine place kind «msg_len» answer) ≤ enough ⌝ }
-    ensures { λ r. ⌜ r ≡ at + length (messageLine place kind «msg_len» answer) ⌝ }
-    ensures { λ _. ⌜ Puts (now (out .entry)) at (messageLine place kind «msg_len» answer) (now (out .exit)) ⌝ }
+    requires { ⌜ at + length (messageLine place kind «msg_len» (saying answer)) ≤ enough ⌝ }
+    ensures { λ r. ⌜ r ≡ at + length (messageLine place kind «msg_len» (saying answer)) ⌝ }
+    ensures { λ _. ⌜ Puts (now (out .entry)) at (messageLine place kind «msg_len» (saying answer)) (now (out .exit)) ⌝ }
 {
     let after_place = put_field(out, at, place, b' ');
     let after_kind = put_field(out, after_place, kind, b' ');
     let after_length = put_field(out, after_kind, msg_len, b' ');
-    put_field(out, after_length, answer, b'\n')
+    put_answer(out, after_length, answer)
+}
+
+// The last field of a message's line, with the newline.
+fn put_answer(out: &mut [u8], at: usize, answer: Answer) -> usize
+    requires { ⌜ at + length (saying answer ++ (10 ∷ [])) ≤ enough ⌝ }
+    ensures { λ r. ⌜ r ≡ at + length (saying answer ++ (10 ∷ [])) ⌝ }
+    ensures { λ _. ⌜ Puts (now (out .entry)) at (saying answer ++ (10 ∷ [])) (now (out .exit)) ⌝ }
+{
+    match answer {
+        Answer::Number(n) => put_field(out, at, n, b'\n'),
+        Answer::Skip => {
+            writing::put_bytes(out, at, b"skip\n");
+            at + 5
+        }
+    }
 }
 
 // The line of the splitter's refusal, and the last line, which has the same place.

@@ -15,6 +15,7 @@ use Rattle.common_header.proofs.Promises as CommonHeaderPromises
 use Rattle.per_peer_header.specs.Read as PerPeerHeader
 use Rattle.per_peer_header.proofs.Promises as PerPeerHeaderPromises
 use Rattle.splitter.specs.Read as Message
+use Rattle.splitter.proofs.Laws.{shown-good}
 use Rattle.splitter.proofs.Promises as MessagePromises
 use Rattle.initiation_message.specs.Read as Initiation
 use Rattle.initiation_message.proofs.Promises as InitiationPromises
@@ -48,7 +49,7 @@ per-peer-header-exactly = exactly-from PerPeerHeader.reader PerPeerHeaderPromise
 
 -- a message on a stream, as the splitter cuts it off
 pub message-exactly : Exactly Message.reader
-message-exactly = exactly-from Message.reader MessagePromises.sound MessagePromises.complete MessagePromises.told-back MessagePromises.unique (λ r. refl)
+message-exactly = exactly-from Message.reader MessagePromises.sound MessagePromises.complete MessagePromises.told-back MessagePromises.unique shown-good
 
 -- Initiation (section 4.3)
 pub initiation-exactly : Exactly Initiation.reader

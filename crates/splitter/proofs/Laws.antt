@@ -1,23 +1,30 @@
 -- What the splitter accepts, and how the stream is cut at the header's length. Assumes nothing.
-use mathlib.Core.Path.{_≡_, refl}
+use mathlib.Core.Path.{_≡_, refl, ap}
 use mathlib.Core.Bool.{Bool, true, false}
 use Prim.Native.Nat.{ℕ, suc, _+_, _-_, _≤_}
 use native.Mathlib.Omega.{arith}
-use borrow.Author.Tests.{ltb-false, le-ltb}
+use borrow.Author.Tests.{ltb-true, ltb-false, le-ltb}
 use lib.Dec.{ltb}
 use lib.ListN.{length, take, drop, take-append-drop}
 use lib.Seq.{take-at, drop-at}
 use Rattle.wire.specs.Number as Number
 use Rattle.wire.specs.Bytes.{pick}
-use Rattle.wire.specs.Refusal.{refusal, lacking, cutAt}
+use Rattle.wire.specs.Refusal.{refusal, noRefusal, lacking, cutAt}
 use Rattle.wire.specs.View.{view}
+use Rattle.wire.specs.declared.Refusal.{Refusal}
+use Rattle.wire.specs.declared.View.{View}
+use Rattle.wire.proofs.Waits.{said}
 use Rattle.common_header.specs.Grammar as Header
-use Rattle.common_header.specs.Shown as HeaderShown
-use Rattle.common_header.specs.declared.BmpCommonHeader.{BmpCommonHeader}
+use Rattle.common_header.specs.Fields as Fields
+use Rattle.common_header.specs.Shown.{named}
+use Rattle.common_header.specs.Read as HeaderRead
+use Rattle.common_header.specs.declared.CommonFields.{CommonFields}
+use Rattle.common_header.specs.declared.CommonFieldsAnswer.{CommonFieldsAnswer}
 use Rattle.common_header.specs.declared.CommonHeaderAnswer.{CommonHeaderAnswer}
+use Rattle.common_header.proofs.Promises.{kind-told}
 use Rattle.splitter.specs.Grammar.{Reading, headerOf}
-use Rattle.splitter.specs.Shown.{refusalOf}
-use Rattle.splitter.specs.Read.{judged, afterHeader}
+use Rattle.splitter.specs.Shown.{handedOut, shown, refusalOf, messageOf, fieldsIn, ByItsType}
+use Rattle.splitter.specs.Read.{judged, afterFields}
 use Rattle.splitter.specs.declared.SplitAnswer.{SplitAnswer}
 
 -- What is missing of the message is what is missing behind its header.
@@ -32,32 +39,64 @@ pub record Fitting (there n : ℕ) : Type 0 where
   pub most : n ≤ Number.limit
   pub all-there : n ≤ there
 
-pub fitting-shown : (there : ℕ) (h : BmpCommonHeader) → Fitting there (h .«msg_len») → judged there h ≡ SplitAnswer.Message h (view 0 (h .«msg_len»))
-fitting-shown there h f =
-    rw (le-ltb (h .«msg_len») 6 (f .least), le-ltb Number.limit (h .«msg_len») (f .most), le-ltb there (h .«msg_len») (f .all-there))
+pub fitting-shown : (there : ℕ) (f : CommonFields) → Fitting there (f .«msg_len») → judged there f ≡ handedOut f (view 0 (f .«msg_len»))
+fitting-shown there f x =
+    rw (le-ltb (f .«msg_len») 6 (x .least), le-ltb Number.limit (f .«msg_len») (x .most), le-ltb there (f .«msg_len») (x .all-there))
 
-pub judged-good : (there : ℕ) (h : BmpCommonHeader) → refusalOf (judged there h) .number ≡ Number.Good → Fitting there (h .«msg_len»)
-judged-good there h e = go (ltb n 6) refl (ltb Number.limit n) refl (ltb there n) refl e
+pub judged-good : (there : ℕ) (f : CommonFields) → refusalOf (judged there f) .number ≡ Number.Good → Fitting there (f .«msg_len»)
+judged-good there f e = go (ltb n 6) refl (ltb Number.limit n) refl (ltb there n) refl e
   where
     n : ℕ
-    n = h .«msg_len»
+    n = f .«msg_len»
 
     no : {k : ℕ} → suc k ≡ 0 → Fitting there n
     no q = absurd (omega arith)
 
     go : (a : Bool) → ltb n 6 ≡ a → (b : Bool) → ltb Number.limit n ≡ b → (c : Bool) → ltb there n ≡ c
         → refusalOf (pick a (SplitAnswer.Refused (refusal Number.BadMessageLength 1)) (pick b (SplitAnswer.Refused (refusal Number.TooLong 1))
-        (pick c (SplitAnswer.Refused (lacking 6 (n - there))) (SplitAnswer.Message h (view 0 n))))) .number ≡ Number.Good
+        (pick c (SplitAnswer.Refused (lacking 6 (n - there))) (handedOut f (view 0 n))))) .number ≡ Number.Good
         → Fitting there n
     go true ha b hb c hc q = no q
     go false ha true hb c hc q = no q
     go false ha false hb true hc q = no q
     go false ha false hb false hc q = record { least = ltb-false n 6 ha; most = ltb-false Number.limit n hb; all-there = ltb-false there n hc }
 
--- a good answer comes from a good header
-pub header-accepted : (there : ℕ) (a : CommonHeaderAnswer) → refusalOf (afterHeader there a) .number ≡ Number.Good → HeaderShown.refusalOf a .number ≡ Number.Good
-header-accepted there (CommonHeaderAnswer.Good h stop) e = refl
-header-accepted there (CommonHeaderAnswer.Refused r) e = e
+-- a good answer comes from good fields
+pub fields-accepted : (there : ℕ) (a : CommonFieldsAnswer) → refusalOf (afterFields there a) .number ≡ Number.Good → Fields.refusalOf a .number ≡ Number.Good
+fields-accepted there (CommonFieldsAnswer.Good f) e = refl
+fields-accepted there (CommonFieldsAnswer.Refused r) e = e
+
+-- ---- what a message that is handed out says of itself, of a known type or skipped
+pub record HandsOut (f : CommonFields) (v : View) (a : SplitAnswer) : Type 0 where
+  pub is-good : refusalOf a ≡ noRefusal
+  pub view-is : messageOf a ≡ v
+  pub fields-are : fieldsIn a ≡ f
+  pub by-its-type : ByItsType a
+
+pub hands-out : (f : CommonFields) (v : View) → HandsOut f v (handedOut f v)
+hands-out f v = go (ltb 6 (f .kind)) refl
+  where
+    go : (b : Bool) → ltb 6 (f .kind) ≡ b → HandsOut f v (pick b (SplitAnswer.Skipped f v) (SplitAnswer.Message (named f) v))
+    go true h = record { is-good = refl; view-is = refl; fields-are = refl; by-its-type = ltb-true 6 (f .kind) h }
+    go false h =
+        let kind-is = kind-told (f .kind) (ltb-false 6 (f .kind) h) in
+        record {
+          is-good = refl;
+          view-is = refl;
+          fields-are = λ i. record { version = f .version; «msg_len» = f .«msg_len»; kind = kind-is i };
+          by-its-type = rw kind-is (ltb-false 6 (f .kind) h);
+        }
+
+pub shown-good : (r : Reading) → refusalOf (shown r) .number ≡ Number.Good
+shown-good r = ap (λ (x : Refusal). x .number) (hands-out (Fields.fieldsOf (headerOf r)) (view 0 (r .length)) .is-good)
+
+-- as the code finds it: by what the common header says of the type
+abbrev pub byHeader : CommonFields → View → CommonHeaderAnswer → SplitAnswer
+byHeader f v (CommonHeaderAnswer.Good h stop) = SplitAnswer.Message h v
+byHeader f v (CommonHeaderAnswer.Refused r) = SplitAnswer.Skipped f v
+
+pub by-header : (f : CommonFields) (v : View) → byHeader f v (HeaderRead.judged f) ≡ handedOut f v
+by-header f v = said (byHeader f v) (ltb 6 (f .kind)) refl refl
 
 -- ---- what follows the header, cut into body and rest
 abbrev pub cut-at : Header.Reading → Reading

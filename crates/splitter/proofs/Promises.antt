@@ -3,27 +3,29 @@ use mathlib.Core.Path.{_≡_, sym, ap, _∙_, subst}
 use mathlib.Core.List.{List, _++_}
 use Prim.Native.Nat.{ℕ, _+_, _-_, _≤_}
 use native.Mathlib.Omega.{arith}
+use lib.Dec.{ltb}
 use lib.ListN.{length, take, length-append}
 use lib.Seq.{length-take-le}
 use Rattle.wire.specs.Number as Number
-use Rattle.wire.specs.Bytes.{Bytes}
+use Rattle.wire.specs.Bytes.{numAt, Bytes}
 use Rattle.wire.specs.View.{view, viewed}
+use Rattle.wire.proofs.Bytes.{num-part}
+use Rattle.wire.proofs.Refuses.{pick-in}
 use Rattle.wire.proofs.Views.{viewed-inside}
 use Rattle.wire.proofs.Determined.{determined}
 use Rattle.wire.specs.Refuses.{Refuses}
 use Rattle.wire.specs.Waits.{Waits, MissingTells}
 use Rattle.wire.specs.Exactly.{Sound, Complete, Told, Unique}
 use Rattle.common_header.specs.Grammar as Header
-use Rattle.common_header.specs.Shown as HeaderShown
-use Rattle.common_header.specs.Read.{readCommonHeader}
-use Rattle.common_header.specs.declared.CommonHeaderAnswer.{CommonHeaderAnswer}
+use Rattle.common_header.specs.Fields.{fieldsOf, readFields, readCommonFields}
+use Rattle.common_header.specs.declared.CommonFieldsAnswer.{CommonFieldsAnswer}
 use Rattle.common_header.proofs.Laws.{length-join}
-use Rattle.common_header.proofs.Promises as HeaderPromises
+use Rattle.common_header.proofs.Promises.{fields-sound, fields-complete, fields-unique}
 use Rattle.splitter.specs.Grammar.{headerOf, join, grammar}
-use Rattle.splitter.specs.Shown.{refusalOf, messageOf, commonHeaderOf}
-use Rattle.splitter.specs.Read.{afterHeader, splitOf, reader}
+use Rattle.splitter.specs.Shown.{refusalOf, messageOf, fieldsIn, ByItsType}
+use Rattle.splitter.specs.Read.{afterFields, splitOf, reader}
 use Rattle.splitter.specs.declared.SplitAnswer.{SplitAnswer}
-use Rattle.splitter.proofs.Laws.{Fitting, fitting-shown, judged-good, header-accepted, cut-at, header-cut, cut-header}
+use Rattle.splitter.proofs.Laws.{Fitting, fitting-shown, judged-good, fields-accepted, hands-out, cut-at, header-cut, cut-header}
 use Rattle.splitter.proofs.Told as ToldProofs
 use Rattle.splitter.proofs.Refusals as Refusals
 use Rattle.splitter.proofs.Waits as Waiting
@@ -31,11 +33,11 @@ use Rattle.splitter.proofs.Waits as Waiting
 -- What the splitter accepts is a whole message and the rest of the stream, and it shows that message.
 pub sound : Sound reader
 sound s p e =
-    let x = HeaderPromises.sound s p (header-accepted (length s) (readCommonHeader s) e) in
+    let x = fields-sound s p (fields-accepted (length s) (readCommonFields s) e) in
     let h = x .0 in
     let f : Fitting (length s) (h .length) =
-    judged-good (length s) (HeaderShown.headerOf (HeaderShown.shown h))
-    (subst (λ (a : CommonHeaderAnswer). refusalOf (afterHeader (length s) a) .number ≡ Number.Good) (x .1 .shown-so) e) in
+    judged-good (length s) (fieldsOf h)
+    (subst (λ (a : CommonFieldsAnswer). refusalOf (afterFields (length s) a) .number ≡ Number.Good) (x .1 .shown-so) e) in
     let n : length s ≡ 6 + length (h .tail) = ap length (sym (x .1 .reading .joined)) ∙ length-join h in
     let long : length (take (h .length - 6) (h .tail)) ≡ h .length - 6 = length-take-le (h .length - 6) (h .tail) (omega (arith, f .all-there, n)) in (
       cut-at h,
@@ -44,14 +46,14 @@ sound s p e =
             record {
               is-good =
                   record {
-                    header-good = subst Header.Good (sym (header-cut h)) (x .1 .reading .is-good);
+                    header-good = subst Header.AnyType (sym (header-cut h)) (x .1 .reading .is-good);
                     length-is = omega (arith, long, f .least);
                     short-enough = f .most;
                   };
               fits = tt;
               joined = ap Header.join (header-cut h) ∙ x .1 .reading .joined;
             };
-        shown-so = ap (afterHeader (length s)) (x .1 .shown-so) ∙ fitting-shown (length s) (HeaderShown.headerOf (HeaderShown.shown h)) f;
+        shown-so = ap (afterFields (length s)) (x .1 .shown-so) ∙ fitting-shown (length s) (fieldsOf h) f;
       },
     )
 
@@ -65,8 +67,8 @@ complete r g _ short =
       most = g .short-enough;
       all-there = omega (arith, n, g .length-is, length-append (r .body) (r .rest));
     } in
-    ap (afterHeader (length (join r))) (HeaderPromises.complete (headerOf r) (g .header-good) tt short)
-    ∙ fitting-shown (length (join r)) (HeaderShown.headerOf (HeaderShown.shown (headerOf r))) f
+    ap (afterFields (length (join r))) (fields-complete (headerOf r) (g .header-good) tt short)
+    ∙ fitting-shown (length (join r)) (fieldsOf (headerOf r)) f
 
 -- Every good reading is told by the answer that shows it.
 pub told-back : Told reader
@@ -87,20 +89,39 @@ missing-tells = Waiting.missing-tells
 -- No stream has two first messages.
 pub unique : Unique grammar
 unique r q g h e =
-    sym (cut-header r (g .length-is)) ∙ ap cut-at (HeaderPromises.unique (headerOf r) (headerOf q) (g .header-good) (h .header-good) e)
+    sym (cut-header r (g .length-is)) ∙ ap cut-at (fields-unique (headerOf r) (headerOf q) (g .header-good) (h .header-good) e)
     ∙ cut-header q (h .length-is)
 
--- Where the splitter is good, the message that it hands out is the first bytes of the stream, as many as the header's length says.
+-- Where the splitter is good, the message that it hands out or skips is the first bytes of the stream, as many as the header's length says.
 pub first-bytes : (s : List ℕ) → Bytes s → refusalOf (splitOf s) .number ≡ Number.Good
-    → (viewed s (messageOf (splitOf s)) ≡ take (commonHeaderOf (splitOf s) .«msg_len») s) × (length (viewed s (messageOf (splitOf s))) ≡ commonHeaderOf (splitOf s) .«msg_len»)
+    → (viewed s (messageOf (splitOf s)) ≡ take (fieldsIn (splitOf s) .«msg_len») s) × (length (viewed s (messageOf (splitOf s))) ≡ fieldsIn (splitOf s) .«msg_len»)
 first-bytes s p e =
     let x = sound s p e in
     let r = x .0 in
     let g = x .1 .reading .is-good in
+    let out = hands-out (fieldsOf (headerOf r)) (view 0 (r .length)) in
     let n : length s ≡ 6 + length (r .body ++ r .rest) = ap length (sym (x .1 .reading .joined)) ∙ length-join (headerOf r) in
     let there : r .length ≤ length s = omega (arith, n, g .length-is, length-append (r .body) (r .rest)) in
     let v : viewed s (view 0 (r .length)) ≡ take (r .length) s = viewed-inside s (view 0 (r .length)) (omega (arith, there)) in
-    rw (x .1 .shown-so) (v, ap length v ∙ length-take-le (r .length) s there)
+    rw (x .1 .shown-so, out .view-is, out .fields-are) (v, ap length v ∙ length-take-le (r .length) s there)
+
+-- A message is skipped exactly where its type is none of the seven.
+pub by-its-type : (s : List ℕ) → ByItsType (splitOf s)
+by-its-type s = go (readCommonFields s)
+  where
+    go : (a : CommonFieldsAnswer) → ByItsType (afterFields (length s) a)
+    go (CommonFieldsAnswer.Good f) =
+        let n = f .«msg_len» in
+        pick-in ByItsType (ltb n 6) tt (pick-in ByItsType (ltb Number.limit n) tt (pick-in ByItsType (ltb (length s) n) tt (hands-out f (view 0 n) .by-its-type)))
+    go (CommonFieldsAnswer.Refused r) = tt
+
+-- The answer goes by the six bytes of the header and by how many there are in all: what a message holds is not read, skipped or not.
+pub header-decides : (s t : List ℕ) → take 6 s ≡ take 6 t → length s ≡ length t → splitOf s ≡ splitOf t
+unfolding readFields
+header-decides s t e l =
+    let same : (w at : ℕ) → at + w ≤ 6 → numAt w s (0 + at) ≡ numAt w t (0 + at) = λ w at h.
+    sym (num-part w at 6 s 0 h) ∙ ap (λ (x : List ℕ). numAt w x at) e ∙ num-part w at 6 t 0 h in
+    rw (l, same 1 0 (omega arith), same 4 1 (omega arith), same 1 5 (omega arith))
 
 -- ---- any two answers that the contract allows are equal
 pub split-determined : (s : List ℕ) (a b : SplitAnswer) → a ≡ splitOf s → b ≡ splitOf s → a ≡ b

@@ -1,56 +1,43 @@
 -- What the reader refuses, and with which numbers. Assumes nothing.
-use mathlib.Core.Path.{refl}
+use mathlib.Core.Path.{refl, ap}
 use mathlib.Core.List.{List, [], _∷_}
-use mathlib.Core.Logic.{inl, inr}
 use Prim.Native.Nat.{ℕ}
 use lib.Dec.{ltb}
 use lib.ListN.{length}
 use Rattle.wire.specs.Number as Number
 use Rattle.wire.specs.Bytes.{value, none}
-use Rattle.wire.specs.Refuses.{OneOf, Refuses}
-use Rattle.wire.proofs.Refuses.{pick-in, Answered, is-good, is-empty, one-of, GivesEach, refuses-from, bytes-are}
-use Rattle.common_header.specs.Read as Header
+use Rattle.wire.specs.Refuses.{Refuses}
+use Rattle.wire.specs.View.{view}
+use Rattle.wire.specs.declared.Refusal.{Refusal}
+use Rattle.wire.proofs.Refuses.{pick-in, Answered, is-good, is-empty, isOneOf, one-of, GivesEach, refuses-from, passed, bytes-are}
+use Rattle.common_header.specs.Fields as Fields
 use Rattle.common_header.specs.Fields.{readFields}
-use Rattle.common_header.specs.declared.CommonHeaderAnswer.{CommonHeaderAnswer}
-use Rattle.common_header.proofs.Refusals as HeaderRefusals
-use Rattle.splitter.specs.Read.{afterHeader, splitOf, numbers, reader}
+use Rattle.common_header.specs.declared.CommonFieldsAnswer.{CommonFieldsAnswer}
+use Rattle.common_header.proofs.Refusals.{fields-answered}
+use Rattle.splitter.specs.Read.{afterFields, splitOf, numbers, reader}
+use Rattle.splitter.proofs.Laws.{hands-out}
 
--- those of the header are among them
-among : (n : ℕ) → OneOf Header.numbers n → OneOf numbers n
-among n (inl e) = inl e
-among n (inr (inl e)) = inr (inl e)
-among n (inr (inr (inl e))) = inr (inr (inl e))
-among n (inr (inr (inr (inl e)))) = inr (inr (inr (inl e)))
-among n (inr (inr (inr (inr x)))) = absurd x
-
-after : (there : ℕ) (a : CommonHeaderAnswer) → Answered Header.reader a → Answered reader (afterHeader there a)
-after there (CommonHeaderAnswer.Good h stop) x =
+-- the refusals of the fields are handed on
+after : (there : ℕ) (a : CommonFieldsAnswer) → Answered Fields.reader a → Answered reader (afterFields there a)
+after there (CommonFieldsAnswer.Good f) x =
     let P = Answered reader in
-    let n = h .«msg_len» in
+    let n = f .«msg_len» in
     pick-in P (ltb n 6) (is-empty refl (one-of numbers Number.BadMessageLength refl))
     (pick-in P (ltb Number.limit n) (is-empty refl (one-of numbers Number.TooLong refl))
-    (pick-in P (ltb there n) (is-empty refl (one-of numbers Number.Cut refl)) (is-good refl)))
-after there (CommonHeaderAnswer.Refused r) (is-good e) = is-good e
-after there (CommonHeaderAnswer.Refused r) (is-empty e o) = is-empty refl (among (r .number) o)
+    (pick-in P (ltb there n) (is-empty refl (one-of numbers Number.Cut refl)) (is-good (ap (λ (r : Refusal). r .number) (hands-out f (view 0 n) .is-good)))))
+after there (CommonFieldsAnswer.Refused r) (is-good e) = is-good e
+after there (CommonFieldsAnswer.Refused r) (is-empty e o) =
+    is-empty refl (one-of numbers (r .number) (passed (isOneOf numbers) Fields.numbers refl (r .number) o))
 
 answered : (s : List ℕ) → Answered reader (splitOf s)
-answered s = after (length s) (Header.readCommonHeader s) (HeaderRefusals.answered s)
+answered s = after (length s) (Fields.readCommonFields s) (fields-answered s)
 
--- a length of 1,048,577, none, version 4, type 7, and a length of 5
+-- a length of 1,048,577, none, version 4, and a length of 5
 given : GivesEach reader numbers
 unfolding value readFields
 given = (
   (3 ∷ 0 ∷ 16 ∷ 0 ∷ 1 ∷ 0 ∷ [], bytes-are _ refl, refl),
-  (
-    ([], none, refl),
-    (
-      (4 ∷ [], bytes-are _ refl, refl),
-      (
-        (3 ∷ 0 ∷ 0 ∷ 0 ∷ 6 ∷ 7 ∷ [], bytes-are _ refl, refl),
-        ((3 ∷ 0 ∷ 0 ∷ 0 ∷ 5 ∷ 4 ∷ [], bytes-are _ refl, refl), tt),
-      ),
-    ),
-  ),
+  (([], none, refl), ((4 ∷ [], bytes-are _ refl, refl), ((3 ∷ 0 ∷ 0 ∷ 0 ∷ 5 ∷ 4 ∷ [], bytes-are _ refl, refl), tt))),
 )
 
 pub refuses : Refuses reader

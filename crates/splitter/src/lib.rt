@@ -1,6 +1,8 @@
 // One message off the front of a BMP stream.
 use common_header::BmpCommonHeader;
 use common_header::COMMON_HEADER;
+use common_header::CommonFields;
+use common_header::CommonFieldsAnswer;
 use common_header::CommonHeaderAnswer;
 use wire::Need;
 use wire::Refusal;
@@ -8,11 +10,14 @@ use wire::View;
 ghost use mathlib.Core.Path.{_≡_};
 ghost use Prim.Native.Nat.{_≤_};
 ghost use Rattle.splitter.specs.declared.SplitAnswer.{SplitAnswer};
+ghost use Rattle.splitter.specs.Shown.{handedOut};
 ghost use Rattle.splitter.specs.Read.{judged, splitOf};
 
-// The header of the first message and the view of that whole message, or why there is none.
+// The first message: its header and the view of the whole of it. One of a type that RFC 7854 does not have is skipped, and
+// has the header's fields in place of the header.
 pub enum SplitAnswer {
     Message(BmpCommonHeader, View),
+    Skipped(CommonFields, View),
     Refused(Refusal),
 }
 
@@ -20,18 +25,18 @@ pub enum SplitAnswer {
 pub fn split_message(s: &[u8]) -> SplitAnswer
     ensures { λ r. ⌜ r ≡ splitOf (now (s .entry)) ⌝ }
 {
-    match common_header::parse_bmp_common_header(s) {
-        CommonHeaderAnswer::Refused(refusal) => SplitAnswer::Refused(refusal),
-        CommonHeaderAnswer::Good(header, _) => judge(header, s.len()),
+    match common_header::parse_common_fields(s) {
+        CommonFieldsAnswer::Refused(refusal) => SplitAnswer::Refused(refusal),
+        CommonFieldsAnswer::Good(fields) => judge(fields, s.len()),
     }
 }
 
-// The length is judged only once the whole header is good.
-fn judge(header: BmpCommonHeader, there: usize) -> SplitAnswer
+// The length is judged whatever the type is: it says where the next message starts.
+fn judge(fields: CommonFields, there: usize) -> SplitAnswer
     requires { ⌜ 6 ≤ there ⌝ }
-    ensures { λ r. ⌜ r ≡ judged there header ⌝ }
+    ensures { λ r. ⌜ r ≡ judged there fields ⌝ }
 {
-    let length = header.msg_len as usize;
+    let length = fields.msg_len as usize;
     if length < COMMON_HEADER {
         return SplitAnswer::Refused(wire::refusal_at(wire::BAD_MESSAGE_LENGTH, 1));
     }
@@ -45,7 +50,16 @@ fn judge(header: BmpCommonHeader, there: usize) -> SplitAnswer
                 place: 0,
                 length: length,
             };
-            SplitAnswer::Message(header, message)
+            hand_out(fields, message)
         }
+    }
+}
+
+fn hand_out(fields: CommonFields, message: View) -> SplitAnswer
+    ensures { λ r. ⌜ r ≡ handedOut fields message ⌝ }
+{
+    match fields.header() {
+        CommonHeaderAnswer::Good(header, _) => SplitAnswer::Message(header, message),
+        CommonHeaderAnswer::Refused(_) => SplitAnswer::Skipped(fields, message),
     }
 }

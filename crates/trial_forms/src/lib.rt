@@ -93,57 +93,59 @@ pub const COMMON: usize = 8;
 
 pub const SPLIT: usize = 9;
 
-pub const TIMELESS_PEER: usize = 10;
+pub const SKIPPED: usize = 10;
 
-pub const TIMED_PEER: usize = 11;
+pub const TIMELESS_PEER: usize = 11;
 
-pub const OPENBMP: usize = 12;
+pub const TIMED_PEER: usize = 12;
 
-pub const PEER_DOWN: usize = 13;
+pub const OPENBMP: usize = 13;
 
-pub const PEER_DOWN_DATA: usize = 14;
+pub const PEER_DOWN: usize = 14;
 
-pub const MONITORING: usize = 15;
+pub const PEER_DOWN_DATA: usize = 15;
 
-pub const PEER_UP: usize = 16;
+pub const MONITORING: usize = 16;
 
-pub const STATS: usize = 17;
+pub const PEER_UP: usize = 17;
 
-pub const TLVS: usize = 18;
+pub const STATS: usize = 18;
 
-pub const COUNTER: usize = 19;
+pub const TLVS: usize = 19;
 
-pub const GAUGE: usize = 20;
+pub const COUNTER: usize = 20;
 
-pub const AFI_SAFI_GAUGE: usize = 21;
+pub const GAUGE: usize = 21;
 
-pub const RAW: usize = 22;
+pub const AFI_SAFI_GAUGE: usize = 22;
 
-pub const NAMED_TLV: usize = 23;
+pub const RAW: usize = 23;
 
-pub const UNKNOWN_TLV: usize = 24;
+pub const NAMED_TLV: usize = 24;
 
-pub const STRING: usize = 25;
+pub const UNKNOWN_TLV: usize = 25;
 
-pub const REASON: usize = 26;
+pub const STRING: usize = 26;
 
-pub const BGP_MESSAGE: usize = 27;
+pub const REASON: usize = 27;
 
-pub const INFORMATION: usize = 28;
+pub const BGP_MESSAGE: usize = 28;
 
-pub const TABLE_END: usize = 29;
+pub const INFORMATION: usize = 29;
 
-pub const NOTHING: usize = 30;
+pub const TABLE_END: usize = 30;
 
-pub const OK: usize = 31;
+pub const NOTHING: usize = 31;
 
-pub const NONE_YET: usize = 32;
+pub const OK: usize = 32;
 
-pub const REPORT: usize = 33;
+pub const NONE_YET: usize = 33;
 
-pub const PEERS: usize = 34;
+pub const REPORT: usize = 34;
 
-pub const PEER: usize = 35;
+pub const PEERS: usize = 35;
+
+pub const PEER: usize = 36;
 
 // Puts an answer or an entry by its form. The forms stand in the order of their numbers, and each ends at a bar.
 pub fn put(out: &mut [u8], at: usize, shown: Shown, body: &[u8]) -> usize {
@@ -157,6 +159,7 @@ pub fn put(out: &mut [u8], at: usize, shown: Shown, body: &[u8]) -> usize {
         no no\n|\
         good stop=# tail=# warn=0 version=# length=# type=#\n|\
         good stop=# tail=# warn=0 length=# type=#\n|\
+        skipped stop=# tail=# warn=0 length=# type=#\n|\
         good stop=# tail=# warn=# type=# flags=% dist=@ fam=# addr=@@ as=# asbits=# id=& sec=# usec=# ts=@ time=none\n|\
         good stop=# tail=# warn=# type=# flags=% dist=@ fam=# addr=@@ as=# asbits=# id=& sec=# usec=# ts=@ time=some\n|\
         good stop=# tail=# warn=0 hlen=# mlen=# sec=# usec=# ts=@ admin=$ fam=# router=@@ group=$\n|\

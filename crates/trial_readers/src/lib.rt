@@ -318,20 +318,25 @@ fn table(refusal: Refusal, stop: usize, tail: usize, count: usize) -> Shown {
 pub fn split(s: &[u8]) -> Shown {
     match splitter::split_message(s) {
         SplitAnswer::Refused(refusal) => trial_forms::refused(refusal),
-        SplitAnswer::Message(header, message) => split_off(message.length as u64, header),
+        SplitAnswer::Message(header, message) => {
+            let msg_type = header.msg_type;
+            let kind = common_header::kind_of(msg_type);
+            split_off(
+                trial_forms::SPLIT,
+                message.length as u64,
+                header.msg_len,
+                kind,
+            )
+        }
+        SplitAnswer::Skipped(fields, message) => split_off(
+            trial_forms::SKIPPED,
+            message.length as u64,
+            fields.msg_len,
+            fields.kind,
+        ),
     }
 }
 
-fn split_off(stop: u64, header: BmpCommonHeader) -> Shown {
-    let msg_type = header.msg_type;
-    let kind = common_header::kind_of(msg_type) as u64;
-    trial_forms::of_five(
-        trial_forms::SPLIT,
-        0,
-        stop,
-        stop,
-        header.msg_len as u64,
-        kind,
-        0,
-    )
+fn split_off(form: usize, stop: u64, msg_len: u32, kind: u8) -> Shown {
+    trial_forms::of_five(form, 0, stop, stop, msg_len as u64, kind as u64, 0)
 }

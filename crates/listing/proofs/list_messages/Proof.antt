@@ -3,11 +3,16 @@ use mathlib.Core.Path.{sym}
 use mathlib.Core.Bool.{true}
 use native.Mathlib.Omega.{arith}
 use denote.Ref.{now}
+use Rattle.wire.specs.Bytes.{Bytes}
+use Rattle.wire.proofs.Held.{slice-bytes}
 use Rattle.writing.proofs.Answers.{left-alone, wrote, put-there}
 use Rattle.listing.specs.Listing.{text}
 use Rattle.listing.proofs.Whole.{written-at-once}
 use Rattle.listing.proofs.list_messages.Statement.{statement}
 use Rattle.listing.proofs.list_messages.Tie as tie
+
+stream-bytes : (c : tie.After-shared-slice-known) → Bytes (now (c .before .args .s))
+stream-bytes c = slice-bytes (now (c .before .args .s)) (λ i. omega (arith, c .shared-slice-known .given i))
 
 put-text-requires : tie.Need-put-text-requires
 put-text-requires c κs = search needs
@@ -16,7 +21,7 @@ same-length : tie.Need-same-length
 same-length c = search needs
 
 returns : tie.Need-returns
-returns c = written-at-once (now (c .before .before .before .before .before .before .before .args .s)) (now (c .before .before .before .before .before .before .before .args .out)) (c .before .before .put-text .last .1 .0) (c .before .before .put-text .result) (c .before .before .before .before .if1 .taken) (c .before .before .put-text .ensures .0) (c .before .before .put-text .ensures .1)
+returns c = written-at-once (now (c .before .before .before .before .before .before .before .args .s)) (now (c .before .before .before .before .before .before .before .args .out)) (c .before .before .put-text .last .1 .0) (c .before .before .put-text .result) (stream-bytes (c .before .before .before .before .before .before)) (c .before .before .before .before .if1 .taken) (c .before .before .put-text .ensures .0) (c .before .before .put-text .ensures .1)
 
 slice-aggregate-put-text : tie.Need-slice-aggregate-put-text
 slice-aggregate-put-text c = search needs

@@ -1,7 +1,7 @@
 use borrow.Author.Needs.{needs}
 use mathlib.Core.Path.{sym, _∙_}
 use denote.Ref.{now}
-use Rattle.listing.proofs.Found.{row-end, row-refused, whole-header, row-message}
+use Rattle.listing.proofs.Found.{row-end, row-refused, row-skipped, whole-header, row-message}
 use Rattle.listing.proofs.row_at.Statement.{statement}
 use Rattle.listing.proofs.row_at.Tie as tie
 
@@ -19,12 +19,6 @@ returns c = row-end (now (c .before .before .before .args .s)) (c .before .befor
 
 split-message-requires : tie.Need-split-message-requires
 split-message-requires c κs = search needs
-
-enum-known-refusal : tie.Need-enum-known-refusal
-enum-known-refusal c = search needs
-
-cast-t16 : tie.Need-cast-t16
-cast-t16 c = search needs
 
 enum-known-header : tie.Need-enum-known-header
 enum-known-header c = search needs
@@ -56,11 +50,29 @@ cast-t22 c = search needs
 cast-t23 : tie.Need-cast-t23
 cast-t23 c = search needs
 
+enum-known-fields : tie.Need-enum-known-fields
+enum-known-fields c = search needs
+
+cast-t25 : tie.Need-cast-t25
+cast-t25 c = search needs
+
+cast-t26 : tie.Need-cast-t26
+cast-t26 c = search needs
+
+enum-known-refusal : tie.Need-enum-known-refusal
+enum-known-refusal c = search needs
+
+cast-t28 : tie.Need-cast-t28
+cast-t28 c = search needs
+
 returns-2 : tie.Need-returns-2
-returns-2 c = row-refused (now (c .before .before .before .before .before .before .before .before .args .s)) (c .before .before .before .before .before .before .before .before .args .at) (c .before .before .before .before .before .if1 .left) (c .before .before .refusal .given .0 .0) (sym (c .before .before .before .before .split-message .ensures) ∙ c .before .before .refusal .given .1)
+returns-2 c = row-message (now (c .before .before .before .before .before .before .before .before .before .before .before .before .args .s)) (c .before .before .before .before .before .before .before .before .before .before .before .before .args .at) (c .before .before .before .before .before .before .before .before .before .if1 .left) (c .before .before .before .before .before .before .header .given .0 .0) (c .before .before .before .before .before .before .header .given .0 .1 .0) (sym (c .before .before .before .before .before .before .before .before .split-message .ensures) ∙ c .before .before .before .before .before .before .header .given .1) _ (c .before .before .before .before .part .ensures) _ _ (c .before .kind-of .ensures) (c .before .before .answer-of .ensures .0)
 
 returns-3 : tie.Need-returns-3
-returns-3 c = row-message (now (c .before .before .before .before .before .before .before .before .before .before .before .before .args .s)) (c .before .before .before .before .before .before .before .before .before .before .before .before .args .at) (c .before .before .before .before .before .before .before .before .before .if1 .left) (c .before .before .before .before .before .before .header .given .0 .0) (c .before .before .before .before .before .before .header .given .0 .1 .0) (sym (c .before .before .before .before .before .before .before .before .split-message .ensures) ∙ c .before .before .before .before .before .before .header .given .1) _ (c .before .before .before .before .part .ensures) _ _ (c .before .kind-of .ensures) (c .before .before .answer-of .ensures .0)
+returns-3 c = row-skipped (now (c .before .before .before .before .before .before .before .before .before .args .s)) (c .before .before .before .before .before .before .before .before .before .args .at) (c .before .before .before .before .before .before .if1 .left) (c .before .before .before .fields .given .0 .0) (c .before .before .before .fields .given .0 .1 .0) (sym (c .before .before .before .before .before .split-message .ensures) ∙ c .before .before .before .fields .given .1)
+
+returns-4 : tie.Need-returns-4
+returns-4 c = row-refused (now (c .before .before .before .before .before .before .before .before .args .s)) (c .before .before .before .before .before .before .before .before .args .at) (c .before .before .before .before .before .if1 .left) (c .before .before .refusal .given .0 .0) (sym (c .before .before .before .before .split-message .ensures) ∙ c .before .before .refusal .given .1)
 
 pub row-at-spec : {M : Type 1} → statement M
 row-at-spec =
@@ -71,8 +83,6 @@ row-at-spec =
     part-rest-end
     returns
     split-message-requires
-    enum-known-refusal
-    cast-t16
     enum-known-header
     part-requires
     sub-answer-of
@@ -83,5 +93,11 @@ row-at-spec =
     cast-t18
     cast-t22
     cast-t23
+    enum-known-fields
+    cast-t25
+    cast-t26
+    enum-known-refusal
+    cast-t28
     returns-2
-    returns-3)
+    returns-3
+    returns-4)
