@@ -62,7 +62,7 @@ def with_unknown_types(stream, first, second):
     one, two, three = stream[:first], stream[first:second], stream[second:]
     refused = bytes.fromhex("02 00000005 04")
     return {
-        "unknown-types-between": one + of_type(7, b"") + two + of_type(9, refused) + three + of_type(255, one),
+        "unknown-types-between": one + of_type(7, b"") + two + of_type(9, refused) + of_type(255, one) + three,
         "unknown-type-length-5": one + of_type(9, b"", length=5) + two + three,
         "unknown-type-cut": stream + of_type(9, refused)[:-1],
     }

@@ -88,6 +88,7 @@ pub fn refused() -> Vec<Row> {
     let many = |count: u16| (0..count).flat_map(|i| tlv(i % 5, b"0123456789")).collect();
     vec![
         read("common", "Common header, version 2", vec![2, 0, 0, 0, 6, 4]),
+        // The Rust refuses it, and ours does not.
         read("split", "Splitter, type 9: skipped here", message(9, &[7; 97])),
         read("split", "Splitter, message cut", cut(message(0, &[7; 97]), 90)),
         read("perpeer", "Per-peer header, 30 bytes", cut(peer(0, 0, V4), 30)),

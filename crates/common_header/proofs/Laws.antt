@@ -14,7 +14,7 @@ use Rattle.wire.proofs.Bytes.{value-be, num-back}
 use Rattle.common_header.specs.Grammar.{Reading, join, AnyType}
 use Rattle.common_header.specs.Fields as Fields
 use Rattle.common_header.specs.Fields.{partsOf, readFields, readCommonFields}
-use Rattle.common_header.specs.Shown.{headed, refusalOf}
+use Rattle.common_header.specs.Shown.{goodAnswer, refusalOf}
 use Rattle.common_header.specs.Read.{judged, afterFields}
 use Rattle.common_header.specs.declared.CommonFields.{CommonFields}
 use Rattle.common_header.specs.declared.CommonFieldsAnswer.{CommonFieldsAnswer}
@@ -72,14 +72,14 @@ shows-parts s a =
     rw (le-ltb Number.limit (length s) (a .short), whole s (omega (arith, a .long)) (a .three) (omega (arith, a .long)) (omega (arith, a .long)))
 
 -- ---- the header of fields
-pub known-judged : (f : CommonFields) → f .kind ≤ 6 → judged f ≡ headed f
+pub known-judged : (f : CommonFields) → f .kind ≤ 6 → judged f ≡ goodAnswer f
 known-judged f h = rw (le-ltb 6 (f .kind) h)
 
 pub judged-known : (f : CommonFields) → refusalOf (judged f) .number ≡ Number.Good → f .kind ≤ 6
 judged-known f e = go (ltb 6 (f .kind)) refl e
   where
     go : (b : Bool) → ltb 6 (f .kind) ≡ b
-        → refusalOf (pick b (CommonHeaderAnswer.Refused (refusal Number.UnknownKind 5)) (headed f)) .number ≡ Number.Good
+        → refusalOf (pick b (CommonHeaderAnswer.Refused (refusal Number.UnknownKind 5)) (goodAnswer f)) .number ≡ Number.Good
         → f .kind ≤ 6
     go true h q = absurd (omega arith)
     go false h q = ltb-false 6 (f .kind) h

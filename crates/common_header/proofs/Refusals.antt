@@ -52,7 +52,7 @@ given = (
   (([], none, refl), ((4 ∷ [], bytes-are _ refl, refl), ((3 ∷ 0 ∷ 0 ∷ 0 ∷ 6 ∷ 7 ∷ [], bytes-are _ refl, refl), tt))),
 )
 
-pub answered : (s : List ℕ) → Answered reader (readCommonHeader s)
+answered : (s : List ℕ) → Answered reader (readCommonHeader s)
 answered s = after (readCommonFields s) (fields-answered s)
 
 pub refuses : Refuses reader

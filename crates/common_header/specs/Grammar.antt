@@ -32,7 +32,7 @@ pub record Good (r : Reading) : Type 0 where
   pub any-type : AnyType r
   pub kind-known : r .kind ≤ 6
 
--- a grammar of such headers; there is no table, and nothing is skipped
+-- the grammar of the headers of which G holds; there is no table, and nothing is skipped
 abbrev pub grammarOf : (Reading → Type 0) → Grammar
 grammarOf G =
     record {

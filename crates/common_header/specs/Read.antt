@@ -8,15 +8,15 @@ use Rattle.wire.specs.Refusal.{refusal}
 use Rattle.wire.specs.Exactly.{Reader}
 use Rattle.common_header.specs.Grammar.{grammar}
 use Rattle.common_header.specs.Fields.{readCommonFields}
-use Rattle.common_header.specs.Shown.{headed, shown, refusalOf, stopOf}
+use Rattle.common_header.specs.Shown.{goodAnswer, shown, refusalOf, stopOf}
 use Rattle.common_header.specs.Told.{told}
 use Rattle.common_header.specs.declared.CommonFields.{CommonFields}
 use Rattle.common_header.specs.declared.CommonFieldsAnswer.{CommonFieldsAnswer}
 use Rattle.common_header.specs.declared.CommonHeaderAnswer.{CommonHeaderAnswer}
 
--- the header of fields whose type is known
+-- the header of some fields, where their type is known
 abbrev pub judged : CommonFields → CommonHeaderAnswer
-judged f = pick (ltb 6 (f .kind)) (CommonHeaderAnswer.Refused (refusal Number.UnknownKind 5)) (headed f)
+judged f = pick (ltb 6 (f .kind)) (CommonHeaderAnswer.Refused (refusal Number.UnknownKind 5)) (goodAnswer f)
 
 abbrev pub afterFields : CommonFieldsAnswer → CommonHeaderAnswer
 afterFields (CommonFieldsAnswer.Good f) = judged f

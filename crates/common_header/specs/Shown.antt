@@ -12,7 +12,7 @@ use Rattle.common_header.specs.declared.BmpMsgType.the-variants.{RouteMo
 use Rattle.common_header.specs.declared.BmpCommonHeader.{BmpCommonHeader}
 use Rattle.common_header.specs.declared.CommonHeaderAnswer.{CommonHeaderAnswer}
 
--- the types 0 to 5 by their numbers; 6 is the last, and what is above it is refused before it is named
+-- the types 0 to 5 by their numbers; 6 is the last, and what is above it is never named
 abbrev pub names : List BmpMsgType
 names =
     RouteMonitoring ∷ StatisticsReport ∷ PeerDownNotification ∷ PeerUpNotification ∷ InitiationMessage ∷ TerminationMessage ∷ []
@@ -30,18 +30,18 @@ kindOf TerminationMessage = 5
 kindOf RouteMirroringMessage = 6
 
 -- fields with the name of their type, and back
-abbrev pub named : CommonFields → BmpCommonHeader
-named f = record { version = f .version; «msg_len» = f .«msg_len»; «msg_type» = typeOf (f .kind) }
+abbrev pub headerFrom : CommonFields → BmpCommonHeader
+headerFrom f = record { version = f .version; «msg_len» = f .«msg_len»; «msg_type» = typeOf (f .kind) }
 
-abbrev pub numbered : BmpCommonHeader → CommonFields
-numbered h = record { version = h .version; «msg_len» = h .«msg_len»; kind = kindOf (h .«msg_type») }
+abbrev pub fieldsFrom : BmpCommonHeader → CommonFields
+fieldsFrom h = record { version = h .version; «msg_len» = h .«msg_len»; kind = kindOf (h .«msg_type») }
 
 -- the good answer: the header, and its end as the stop
-abbrev pub headed : CommonFields → CommonHeaderAnswer
-headed f = CommonHeaderAnswer.Good (named f) 6
+abbrev pub goodAnswer : CommonFields → CommonHeaderAnswer
+goodAnswer f = CommonHeaderAnswer.Good (headerFrom f) 6
 
 abbrev pub shown : Reading → CommonHeaderAnswer
-shown r = headed (fieldsOf r)
+shown r = goodAnswer (fieldsOf r)
 
 -- what each answer says: its refusal, its stop and its header, all zero where it refuses
 abbrev pub refusalOf : CommonHeaderAnswer → Refusal

@@ -45,7 +45,7 @@ pub struct CommonFields {
     pub kind: u8,
 }
 
-// The fields, behind which the message goes on at 6, or why they are not all there.
+// The fields, behind which the message goes on at 6, or why they are refused.
 pub enum CommonFieldsAnswer {
     Good(CommonFields),
     Refused(Refusal),

@@ -47,7 +47,7 @@ fn print_next(s: &[u8], at: usize) -> usize
     }
 }
 
-// That a message has bytes, and that they are there, the splitter promises; to test it takes no proof.
+// The place behind a message. That it has bytes, and that they are there, the splitter promises; to test it takes no proof.
 fn past(s: &[u8], at: usize, message: View) -> usize
     requires { ⌜ at < length (now s) ⌝ }
     ensures { λ r. ⌜ (at < r) × (r ≤ length (now (s .entry))) ⌝ }

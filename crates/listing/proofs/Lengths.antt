@@ -14,17 +14,18 @@ use Rattle.wire.specs.Walk.{fault, walk}
 use Rattle.wire.proofs.Bytes.{bytes-drop}
 use Rattle.decimal.specs.Decimal.{decimal}
 use Rattle.decimal.proofs.Promises.{at-most}
-use Rattle.listing.specs.Text.{heading, messageLine, refusedLine, endLine}
+use Rattle.listing.specs.Text.{heading, answerText, messageLine, refusedLine, endLine}
 use Rattle.listing.specs.Listing.{longest, kit, lines, text, enough}
-use Rattle.listing.specs.Steps.{linesFrom, saying, rowAt}
+use Rattle.listing.specs.Steps.{linesFrom, rowAt}
+use Rattle.listing.specs.declared.Answer.{Answer}
 use Rattle.listing.specs.declared.Row.{Row}
 use Rattle.listing.proofs.Rows.{Tells, row-tells, Short, row-short, byRow, by-row}
 
 pub length-field : (d : List ℕ) (x : ℕ) → length (d ++ (x ∷ [])) ≡ length d + 1
 length-field d x = length-append d (x ∷ [])
 
-pub length-message : (p k n : ℕ) (a : List ℕ)
-    → length (messageLine p k n a) ≡ length (decimal p) + length (decimal k) + length (decimal n) + length a + 4
+pub length-message : (p k n : ℕ) (a : Answer)
+    → length (messageLine p k n a) ≡ length (decimal p) + length (decimal k) + length (decimal n) + length (answerText a) + 4
 length-message p k n a = simp length-append (omega arith)
 
 pub length-refused : (p n : ℕ) → length (refusedLine p n) ≡ length (decimal p) + length (decimal n) + 6
@@ -36,8 +37,8 @@ length-end p = simp length-append (omega arith)
 place-short : (n : ℕ) → n ≤ longest → length (decimal n) ≤ 5
 place-short n h = at-most 4 n (omega (arith, h))
 
--- at most 16 bytes, and the digits of its length: one up to 9, five at most
-message-short : (p k n : ℕ) (a : List ℕ) → p ≤ longest → k < 256 → 6 ≤ n → n ≤ longest → length a ≤ 4 → length (messageLine p k n a) ≤ 3 * n
+-- 16 bytes at most beside the digits of its length, of which there is one up to 9, and five at most
+message-short : (p k n : ℕ) (a : Answer) → p ≤ longest → k < 256 → 6 ≤ n → n ≤ longest → length (answerText a) ≤ 4 → length (messageLine p k n a) ≤ 3 * n
 message-short p k n a hp hk six hn ha = go (ltb n 10) refl
   where
     line : length (messageLine p k n a) ≤ length (decimal n) + 16
@@ -71,9 +72,9 @@ lines-short (suc f) at s p hs ha =
     go (Row.Message k n a) t h i =
         let d = length-drop at s in
         let m : n ≤ length s - at = omega (arith, d, t .1) in
-        let x = message-short at k n (saying a) hp (h .0) (t .0) (omega (arith, m, hs)) (h .1) in
+        let x = message-short at k n a hp (h .0) (t .0) (omega (arith, m, hs)) (h .1) in
         let y = i n (omega (arith, m, ha)) in
-        omega (arith, length-append (messageLine at k n (saying a)) (linesFrom f (at + n) s), x, y, m)
+        omega (arith, length-append (messageLine at k n a) (linesFrom f (at + n) s), x, y, m)
 
 pub text-short : (s : List ℕ) → Bytes s → length (text s) ≤ enough
 unfolding text

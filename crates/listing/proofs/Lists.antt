@@ -8,7 +8,7 @@ use lib.Seq.{sets}
 use Rattle.writing.proofs.Sets.{sets-append}
 use Rattle.listing.specs.Text.{messageLine}
 use Rattle.listing.specs.Listing.{enough}
-use Rattle.listing.specs.Steps.{linesFrom, saying, rowAt}
+use Rattle.listing.specs.Steps.{linesFrom, rowAt}
 use Rattle.listing.specs.declared.Answer.{Answer}
 use Rattle.listing.specs.declared.Row.{Row}
 use Rattle.listing.proofs.Puts.{Ends}
@@ -55,17 +55,17 @@ module _ (s out₀ : List ℕ) (start : ℕ) (out : List ℕ) (at to : ℕ) (g :
         let t = tells (Row.Message k n a) e in
         (omega (arith, t .0), omega (arith, t .1, length-drop at s, g .inside))
 
-    pub asks-line : start + length (linesFrom (length s) 0 s) ≤ enough → to + length (messageLine at k n (saying a)) ≤ enough
+    pub asks-line : start + length (linesFrom (length s) 0 s) ≤ enough → to + length (messageLine at k n a) ≤ enough
     asks-line h =
         let x = asks (Row.Message k n a) e h in
-        omega (arith, x, length-append (messageLine at k n (saying a)) (linesFrom (g .turns - 1) (at + n) s))
+        omega (arith, x, length-append (messageLine at k n a) (linesFrom (g .turns - 1) (at + n) s))
 
-    pub turned : (out′ : List ℕ) (to′ : ℕ) → length out′ ≡ length out → Ends out to (messageLine at k n (saying a)) out′ to′ → Lists s out₀ start out′ (at + n) to′
+    pub turned : (out′ : List ℕ) (to′ : ℕ) → length out′ ≡ length out → Ends out to (messageLine at k n a) out′ to′ → Lists s out₀ start out′ (at + n) to′
     turned out′ to′ m x =
         let t = tells (Row.Message k n a) e in
         let l = linesFrom (g .turns - 1) (at + n) s in
         let q = lines-here (Row.Message k n a) e in
-        let j = length-append (messageLine at k n (saying a)) l in
+        let j = length-append (messageLine at k n a) l in
         record {
           turns = g .turns - 1;
           as-many = omega (arith, g .as-many, t .0);
@@ -73,6 +73,6 @@ module _ (s out₀ : List ℕ) (start : ℕ) (out : List ℕ) (at to : ℕ) (g :
           long = m ∙ g .long;
           all-long = omega (arith, g .all-long, ap length q, j, x .0);
           so-far = λ h.
-              g .so-far h ∙ ap (sets out to) q ∙ sets-append (messageLine at k n (saying a)) l out to
+              g .so-far h ∙ ap (sets out to) q ∙ sets-append (messageLine at k n a) l out to
               ∙ ap₂ (λ (o : List ℕ) (i : ℕ). sets o i l) (sym (x .1 (omega (arith, g .all-long, g .long, ap length q, j, h)))) (sym (x .0));
         }

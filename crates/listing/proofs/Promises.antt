@@ -8,13 +8,12 @@ use borrow.Author.Tests.{lt-ltb, le-ltb}
 use lib.ListN.{length, drop}
 use Rattle.wire.specs.Number as Number
 use Rattle.wire.specs.Refusal.{refusal}
-use Rattle.wire.specs.Bytes.{Bytes}
+use Rattle.wire.specs.Bytes.{numAt, Bytes}
 use Rattle.wire.proofs.Bytes.{bytes-take, bytes-drop}
 use Rattle.writing.specs.Write.{after, Wrote}
 use Rattle.writing.specs.declared.WriteAnswer.{WriteAnswer}
 use Rattle.writing.specs.declared.WriteAnswer.the-variants.{Written, Refused}
 use Rattle.writing.proofs.Answers.{does-write, wrote-determined}
-use Rattle.common_header.specs.Shown.{kindOf}
 use Rattle.splitter.specs.Shown.{ByItsType}
 use Rattle.splitter.proofs.Promises.{by-its-type}
 use Rattle.message_answer.specs.Grammar.{GoodExactly}
@@ -22,7 +21,7 @@ use Rattle.message_answer.proofs.Promises as MessageAnswer
 use Rattle.listing.specs.Listing.{longest, Message, known, skipped, numberOf, found, text, enough}
 use Rattle.listing.proofs.Lengths.{text-short}
 use Rattle.listing.proofs.Messages.{Each, Walks, walks, each-so}
-use Rattle.listing.proofs.Rows.{Stands}
+use Rattle.listing.proofs.Rows.{splitAs, Stands}
 
 -- ---- the answer and the output of list_messages
 module _ (s out out′ : List ℕ) (p : Bytes s) (r : WriteAnswer) (wrote : Wrote true (text s) out r out′) where
@@ -52,22 +51,25 @@ size-suffices = text-short
 pub messages : (s : List ℕ) → length s ≤ longest → Walks s 0 (found s)
 messages s h = rw (le-ltb longest (length s) h) (walks (length s) 0 s (omega arith) (omega arith))
 
--- A message of types 0 to 6 is answered with a number, which is 0 exactly where what follows its common header has a reading: its per-peer header
--- and its body, by their grammars, and both fit the tables. One of any other type is skipped.
-abbrev pub Answered : ℕ → Message → Type 0
-Answered at (known h b) = (kindOf (h .«msg_type») ≤ 6) × GoodExactly (h .«msg_type») (drop 6 b) (numberOf h b)
-Answered at (skipped f b) = 6 < f .kind
+-- The sixth byte at a message's place is its type. Up to 6 the message is answered with a number, which is 0 exactly where what follows its common
+-- header has a reading: its per-peer header and its body, by their grammars, and both fit the tables. Above that it is skipped.
+abbrev pub RightlyAnswered : List ℕ → ℕ → Message → Type 0
+RightlyAnswered s at (known h b) = (numAt 1 (drop at s) 5 ≤ 6) × GoodExactly (h .«msg_type») (drop 6 b) (numberOf h b)
+RightlyAnswered s at (skipped f b) = 6 < numAt 1 (drop at s) 5
 
-pub answer-good : (s : List ℕ) → Bytes s → length s ≤ longest → Each Answered 0 (found s .items)
-answer-good s p h = each-so (λ at m. Stands (drop at s) m) Answered good 0 (found s .items) (messages s h .each)
+pub answer-good : (s : List ℕ) → Bytes s → length s ≤ longest → Each (RightlyAnswered s) 0 (found s .items)
+answer-good s p h = each-so (λ at m. Stands (drop at s) m) (RightlyAnswered s) good 0 (found s .items) (messages s h .each)
   where
-    good : (at : ℕ) (m : Message) → Stands (drop at s) m → Answered at m
+    by-type : (at : ℕ) (m : Message) → Stands (drop at s) m → ByItsType (numAt 1 (drop at s) 5) (splitAs m)
+    by-type at m x = subst (ByItsType (numAt 1 (drop at s) 5)) (x .split-so) (by-its-type (drop at s))
+
+    good : (at : ℕ) (m : Message) → Stands (drop at s) m → RightlyAnswered s at m
     good at (known t b) x = (
-      subst ByItsType (x .split-so) (by-its-type (drop at s)),
+      by-type at (known t b) x .0,
       MessageAnswer.answer-good (t .«msg_type») (drop 6 b)
           (bytes-drop 6 (subst Bytes (sym (x .bytes-are)) (bytes-take (t .«msg_len») (bytes-drop at p)))),
     )
-    good at (skipped f b) x = subst ByItsType (x .split-so) (by-its-type (drop at s))
+    good at (skipped f b) x = by-type at (skipped f b) x .0
 
 -- ---- any two answers, and any two outputs, that the contract allows are equal
 pub list-determined : (s out : List ℕ) (r q : WriteAnswer) (out′ out″ : List ℕ)

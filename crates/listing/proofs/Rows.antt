@@ -9,19 +9,20 @@ use lib.Dec.{eqb}
 use lib.ListN.{length, take, drop}
 use lib.Seq.{drop-drop, length-take-le}
 use Rattle.wire.specs.Number as Number
-use Rattle.wire.specs.Bytes.{pick, Bytes}
+use Rattle.wire.specs.Bytes.{pick, numAt, Bytes}
 use Rattle.wire.specs.View.{view, viewed}
 use Rattle.wire.specs.Walk.{Step, stop, bad, item, walk, next}
 use Rattle.wire.specs.declared.Refusal.{Refusal}
 use Rattle.wire.specs.declared.View.{View}
+use Rattle.wire.proofs.Bytes.{num-lt}
 use Rattle.wire.proofs.Refuses.{numbers-below}
 use Rattle.wire.proofs.Views.{viewed-inside}
 use Rattle.common_header.specs.Fields as Fields
 use Rattle.common_header.specs.declared.BmpCommonHeader.{BmpCommonHeader}
 use Rattle.common_header.specs.declared.CommonFields.{CommonFields}
 use Rattle.common_header.specs.declared.CommonFieldsAnswer.{CommonFieldsAnswer}
-use Rattle.splitter.specs.Grammar.{headerOf}
-use Rattle.splitter.specs.Shown.{handedOut, refusalOf, messageOf, fieldsIn}
+use Rattle.common_header.proofs.Promises.{kind-known}
+use Rattle.splitter.specs.Shown.{handedOut, refusalOf, messageOf, fieldsIn, ByItsType}
 use Rattle.splitter.specs.Read as SplitterRead
 use Rattle.splitter.specs.Read.{afterFields, splitOf}
 use Rattle.splitter.specs.declared.SplitAnswer.{SplitAnswer}
@@ -29,9 +30,9 @@ use Rattle.splitter.proofs.Laws.{Fitting, fitting-shown, judged-good, hands-out
 use Rattle.splitter.proofs.Promises as Splitter
 use Rattle.decimal.proofs.Promises.{at-most}
 use Rattle.message_answer.proofs.Promises.{answer-small}
-use Rattle.listing.specs.Text.{messageLine, refusedLine, endLine}
+use Rattle.listing.specs.Text.{answerText, messageLine, refusedLine, endLine}
 use Rattle.listing.specs.Listing.{Message, known, skipped, fieldsOf, lengthOf, numberOf, answer, asStep, step, kit, lines}
-use Rattle.listing.specs.Steps.{linesFrom, answered, saying, rowOf, rowAt}
+use Rattle.listing.specs.Steps.{linesFrom, rowOf, rowAt}
 use Rattle.listing.specs.declared.Row.{Row}
 
 -- ---- a message that stands at the front of some bytes: the splitter hands it out or skips it, and its bytes are the first, as many as its length says
@@ -61,11 +62,11 @@ handed-good (SplitAnswer.Skipped f v) x = refl
 handed-good (SplitAnswer.Refused r) x = absurd x
 
 -- its length fits, and its view is of the first bytes, as many as that says
-record Split-off (there : ℕ) (a : SplitAnswer) : Type 0 where
+record SplitOff (there : ℕ) (a : SplitAnswer) : Type 0 where
   fits : Fitting there (fieldsIn a .«msg_len»)
   view-is : messageOf a ≡ view 0 (fieldsIn a .«msg_len»)
 
-split-off : (there : ℕ) (x : CommonFieldsAnswer) (a : SplitAnswer) → afterFields there x ≡ a → Handed a → Split-off there a
+split-off : (there : ℕ) (x : CommonFieldsAnswer) (a : SplitAnswer) → afterFields there x ≡ a → Handed a → SplitOff there a
 split-off there (CommonFieldsAnswer.Good f) a e h =
     let x = judged-good there f (ap (λ (y : SplitAnswer). refusalOf y .number) e ∙ handed-good a h) in
     let out = hands-out f (view 0 (f .«msg_len»)) in
@@ -89,7 +90,7 @@ module _ (s : List ℕ) (v : View) where
       let x = first s v (h .«msg_len») (o .fits) (o .view-is) in
       record { split-so = e ∙ ap (SplitAnswer.Message h) (o .view-is); fits = o .fits; bytes-are = x .0; length-is = x .1 }
 
-  pub skipped-stands : (f : CommonFields) → splitOf s ≡ SplitAnswer.Skipped f v → Stands s (skipped f (viewed s v))
+  skipped-stands : (f : CommonFields) → splitOf s ≡ SplitAnswer.Skipped f v → Stands s (skipped f (viewed s v))
   skipped-stands f e =
       let o = split-off (length s) (Fields.readCommonFields s) (SplitAnswer.Skipped f v) e tt in
       let x = first s v (f .«msg_len») (o .fits) (o .view-is) in
@@ -128,25 +129,16 @@ row-tells s = tells-of s (see s)
 abbrev pub Short : Row → Type 0
 Short Row.End = Unit {0}
 Short (Row.Refused n) = Unit {0}
-Short (Row.Message k n a) = (k < 256) × (length (saying a) ≤ 4)
+Short (Row.Message k n a) = (k < 256) × (length (answerText a) ≤ 4)
 
 kind-fits : (s : List ℕ) → Bytes s → (m : Message) → Stands s m → fieldsOf m .kind < 256
-kind-fits s p m x =
-    let r = Splitter.sound s p (ap (λ (a : SplitAnswer). refusalOf a .number) (x .split-so) ∙ good m) in
-    let out = hands-out (Fields.fieldsOf (headerOf (r .0))) (view 0 (r .0 .length)) in
-    let same : Fields.fieldsOf (headerOf (r .0)) ≡ fieldsOf m =
-    sym (out .fields-are) ∙ ap fieldsIn (sym (r .1 .shown-so) ∙ x .split-so) ∙ fields m in
-    subst (λ (f : CommonFields). f .kind < 256) same (r .1 .reading .is-good .header-good .kind-fits)
-  where
-    good : (m : Message) → refusalOf (splitAs m) .number ≡ Number.Good
-    good (known h b) = refl
-    good (skipped f b) = refl
+kind-fits s p (known h b) x = let k = kind-known (h .«msg_type») in omega (arith, k)
+kind-fits s p (skipped f b) x =
+    let k = subst (ByItsType (numAt 1 s 5)) (x .split-so) (Splitter.by-its-type s) in
+    let byte = num-lt 1 5 p in
+    omega (arith, k .1, byte)
 
-    fields : (m : Message) → fieldsIn (splitAs m) ≡ fieldsOf m
-    fields (known h b) = refl
-    fields (skipped f b) = refl
-
-answer-fits : (m : Message) → length (saying (answered m)) ≤ 4
+answer-fits : (m : Message) → length (answerText (answer m)) ≤ 4
 answer-fits (known h b) =
     let small = answer-small (h .«msg_type») (drop 6 b) in
     let digits = at-most 2 (numberOf h b) (omega (arith, small)) in
@@ -165,11 +157,7 @@ row-short s p = short-of s p (see s)
 abbrev pub byRow : ℕ → ℕ → List ℕ → Row → List ℕ
 byRow f at s Row.End = endLine at
 byRow f at s (Row.Refused n) = refusedLine at n ++ endLine at
-byRow f at s (Row.Message k n a) = messageLine at k n (saying a) ++ linesFrom f (at + n) s
-
-says : (m : Message) → answer m ≡ saying (answered m)
-says (known h b) = refl
-says (skipped f b) = refl
+byRow f at s (Row.Message k n a) = messageLine at k n a ++ linesFrom f (at + n) s
 
 pub by-row : (f at : ℕ) (s : List ℕ) → linesFrom (suc f) at s ≡ byRow f at s (rowAt (drop at s))
 unfolding walk
@@ -179,7 +167,7 @@ by-row f at s = go (step (drop at s))
         (next x (drop at s) (λ m. walk kit f (drop (lengthOf m) (drop at s))) .end) ≡ byRow f at s (rowOf x)
     go stop = refl
     go (bad r) = refl
-    go (item m) = rw (drop-drop (lengthOf m) at s, says m)
+    go (item m) = rw (drop-drop (lengthOf m) at s)
 
 -- where there are as many turns left as bytes
 pub lines-by-row : (f at : ℕ) (s : List ℕ) → length (drop at s) ≤ f → linesFrom f at s ≡ byRow (f - 1) at s (rowAt (drop at s))

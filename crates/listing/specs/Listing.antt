@@ -8,39 +8,39 @@ use Rattle.wire.specs.Bytes.{pick}
 use Rattle.wire.specs.Refusal.{refusal}
 use Rattle.wire.specs.View.{viewed}
 use Rattle.wire.specs.Walk.{Step, stop, bad, item, End, tail, fault, Walked, Kit, walk}
-use Rattle.common_header.specs.Shown.{numbered}
+use Rattle.common_header.specs.Shown.{fieldsFrom}
 use Rattle.common_header.specs.declared.BmpCommonHeader.{BmpCommonHeader}
 use Rattle.common_header.specs.declared.CommonFields.{CommonFields}
 use Rattle.splitter.specs.Read.{splitOf}
 use Rattle.splitter.specs.declared.SplitAnswer.{SplitAnswer}
 use Rattle.message_answer.specs.Answer.{answerOf}
-use Rattle.decimal.specs.Decimal.{decimal}
-use Rattle.listing.specs.Text.{heading, messageLine, skip, refusedLine, endLine}
+use Rattle.listing.specs.Text.{heading, messageLine, refusedLine, endLine}
+use Rattle.listing.specs.declared.Answer.{Answer}
 
 -- the longest stream that is listed
 abbrev pub longest : ℕ
 longest = 65536
 
--- a message that was split off, and all of its bytes: of a known type with its common header, or skipped, with the fields of that
+-- a message that was split off, with all of its bytes: of a known type with its common header, or skipped, with the fields of the header
 pub data Message : Type 0 where
   known : BmpCommonHeader → List ℕ → Message
   skipped : CommonFields → List ℕ → Message
 
 abbrev pub fieldsOf : Message → CommonFields
-fieldsOf (known h b) = numbered h
+fieldsOf (known h b) = fieldsFrom h
 fieldsOf (skipped f b) = f
 
 abbrev pub lengthOf : Message → ℕ
 lengthOf m = fieldsOf m .«msg_len»
 
--- the number of a message of this type, which says how what follows the six bytes of the common header is read
+-- the number of a message: its type says how what follows the six bytes of the common header is read
 abbrev pub numberOf : BmpCommonHeader → List ℕ → ℕ
 numberOf h b = answerOf (h .«msg_type») (drop 6 b)
 
 -- what a message is answered with; of one that is skipped no byte behind the header is looked at
-abbrev pub answer : Message → List ℕ
-answer (known h b) = decimal (numberOf h b)
-answer (skipped f b) = skip
+abbrev pub answer : Message → Answer
+answer (known h b) = Answer.Number (numberOf h b)
+answer (skipped f b) = Answer.Skip
 
 -- ---- the messages of a stream
 abbrev pub asStep : List ℕ → SplitAnswer → Step Message
@@ -80,7 +80,7 @@ lines at (m ∷ l) e = messageLine at (fieldsOf m .kind) (lengthOf m) (answer m)
 unfoldable pub text : List ℕ → List ℕ
 text s = heading ++ lines 0 (found s .items) (found s .end)
 
--- a text of this length at most, if the stream is of bytes: 25 bytes of heading, 3 for each byte of the stream (a message has at least 6, and its
+-- no stream of bytes has a longer text: 25 bytes of heading, 3 for each byte of the stream (a message has at least 6, and its
 -- line at most 17 where its length has one digit, 21 where it has more), 13 for a refusal, 10 for the last line
 abbrev pub enough : ℕ
 enough = 196656

@@ -5,29 +5,17 @@ use mathlib.Core.List.{List}
 use lib.ListN.{length, drop}
 use lib.Seq.{sets}
 use Rattle.wire.specs.Walk.{Step, stop, bad, item, walk}
-use Rattle.decimal.specs.Decimal.{decimal}
-use Rattle.listing.specs.Text.{skip}
-use Rattle.listing.specs.Listing.{Message, known, skipped, fieldsOf, lengthOf, numberOf, step, kit, lines}
-use Rattle.listing.specs.declared.Answer.{Answer}
+use Rattle.listing.specs.Listing.{Message, fieldsOf, lengthOf, answer, step, kit, lines}
 use Rattle.listing.specs.declared.Row.{Row}
 
 -- at most f messages from a place on
 abbrev pub linesFrom : ℕ → ℕ → List ℕ → List ℕ
 linesFrom f at s = lines at (walk kit f (drop at s) .items) (walk kit f (drop at s) .end)
 
--- the answer of a message, and what an answer says
-abbrev pub answered : Message → Answer
-answered (known h b) = Answer.Number (numberOf h b)
-answered (skipped f b) = Answer.Skip
-
-abbrev pub saying : Answer → List ℕ
-saying (Answer.Number n) = decimal n
-saying Answer.Skip = skip
-
 abbrev pub rowOf : Step Message → Row
 rowOf stop = Row.End
 rowOf (bad r) = Row.Refused (r .number)
-rowOf (item m) = Row.Message (fieldsOf m .kind) (lengthOf m) (answered m)
+rowOf (item m) = Row.Message (fieldsOf m .kind) (lengthOf m) (answer m)
 
 abbrev pub rowAt : List ℕ → Row
 rowAt s = rowOf (step s)

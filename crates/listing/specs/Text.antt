@@ -11,6 +11,7 @@ use Prim.Native.String.{String}
 use Prim.Native.String as String
 use mathlib.Core.List.{List, [], _∷_, _++_}
 use Rattle.decimal.specs.Decimal.{decimal}
+use Rattle.listing.specs.declared.Answer.{Answer}
 
 -- the codes of a text's characters
 abbrev pub ascii : String → List ℕ
@@ -26,12 +27,12 @@ line (f ∷ g ∷ l) = f ++ (ascii " " ++ line (g ∷ l))
 abbrev pub heading : List ℕ
 heading = line (ascii "place" ∷ ascii "type" ∷ ascii "length" ∷ ascii "answer" ∷ [])
 
-abbrev pub messageLine : (place kind length : ℕ) → (answer : List ℕ) → List ℕ
-messageLine place kind length answer = line (decimal place ∷ decimal kind ∷ decimal length ∷ answer ∷ [])
+abbrev pub answerText : Answer → List ℕ
+answerText (Answer.Number n) = decimal n
+answerText Answer.Skip = ascii "skip"
 
--- the answer of a message that is skipped
-abbrev pub skip : List ℕ
-skip = ascii "skip"
+abbrev pub messageLine : (place kind length : ℕ) → Answer → List ℕ
+messageLine place kind length answer = line (decimal place ∷ decimal kind ∷ decimal length ∷ answerText answer ∷ [])
 
 abbrev pub refusedLine : (place number : ℕ) → List ℕ
 refusedLine place number = line (decimal place ∷ ascii "-" ∷ ascii "-" ∷ decimal number ∷ [])

@@ -9,9 +9,9 @@ ghost use Prim.Native.Nat.{_+_, _≤_};
 ghost use lib.ListN.{length, drop};
 ghost use Rattle.writing.specs.Write.{Wrote};
 ghost use Rattle.decimal.specs.Decimal.{decimal};
-ghost use Rattle.listing.specs.Text.{messageLine, refusedLine, endLine};
+ghost use Rattle.listing.specs.Text.{answerText, messageLine, refusedLine, endLine};
 ghost use Rattle.listing.specs.Listing.{longest, enough, text};
-ghost use Rattle.listing.specs.Steps.{linesFrom, saying, rowAt, Puts};
+ghost use Rattle.listing.specs.Steps.{linesFrom, rowAt, Puts};
 
 // The longest stream that is listed.
 pub const LONGEST: usize = 65_536;
@@ -116,9 +116,9 @@ fn put_message_line(
     msg_len: usize,
     answer: Answer,
 ) -> usize
-    requires { ⌜ at + length (messageLine place kind «msg_len» (saying answer)) ≤ enough ⌝ }
-    ensures { λ r. ⌜ r ≡ at + length (messageLine place kind «msg_len» (saying answer)) ⌝ }
-    ensures { λ _. ⌜ Puts (now (out .entry)) at (messageLine place kind «msg_len» (saying answer)) (now (out .exit)) ⌝ }
+    requires { ⌜ at + length (messageLine place kind «msg_len» answer) ≤ enough ⌝ }
+    ensures { λ r. ⌜ r ≡ at + length (messageLine place kind «msg_len» answer) ⌝ }
+    ensures { λ _. ⌜ Puts (now (out .entry)) at (messageLine place kind «msg_len» answer) (now (out .exit)) ⌝ }
 {
     let after_place = put_field(out, at, place, b' ');
     let after_kind = put_field(out, after_place, kind, b' ');
@@ -128,9 +128,9 @@ fn put_message_line(
 
 // The last field of a message's line, with the newline.
 fn put_answer(out: &mut [u8], at: usize, answer: Answer) -> usize
-    requires { ⌜ at + length (saying answer ++ (10 ∷ [])) ≤ enough ⌝ }
-    ensures { λ r. ⌜ r ≡ at + length (saying answer ++ (10 ∷ [])) ⌝ }
-    ensures { λ _. ⌜ Puts (now (out .entry)) at (saying answer ++ (10 ∷ [])) (now (out .exit)) ⌝ }
+    requires { ⌜ at + length (answerText answer ++ (10 ∷ [])) ≤ enough ⌝ }
+    ensures { λ r. ⌜ r ≡ at + length (answerText answer ++ (10 ∷ [])) ⌝ }
+    ensures { λ _. ⌜ Puts (now (out .entry)) at (answerText answer ++ (10 ∷ [])) (now (out .exit)) ⌝ }
 {
     match answer {
         Answer::Number(n) => put_field(out, at, n, b'\n'),

@@ -16,7 +16,6 @@ use Rattle.wire.specs.declared.View.{View}
 use Rattle.wire.proofs.Waits.{said}
 use Rattle.common_header.specs.Grammar as Header
 use Rattle.common_header.specs.Fields as Fields
-use Rattle.common_header.specs.Shown.{named}
 use Rattle.common_header.specs.Read as HeaderRead
 use Rattle.common_header.specs.declared.CommonFields.{CommonFields}
 use Rattle.common_header.specs.declared.CommonFieldsAnswer.{CommonFieldsAnswer}
@@ -68,24 +67,26 @@ fields-accepted there (CommonFieldsAnswer.Refused r) e = e
 
 -- ---- what a message that is handed out says of itself, of a known type or skipped
 pub record HandsOut (f : CommonFields) (v : View) (a : SplitAnswer) : Type 0 where
+  pub by-its-type : ByItsType (f .kind) a
   pub is-good : refusalOf a ≡ noRefusal
   pub view-is : messageOf a ≡ v
   pub fields-are : fieldsIn a ≡ f
-  pub by-its-type : ByItsType a
 
 pub hands-out : (f : CommonFields) (v : View) → HandsOut f v (handedOut f v)
-hands-out f v = go (ltb 6 (f .kind)) refl
+hands-out f v =
+    by-test (ltb 6 (f .kind)) (λ h. record { by-its-type = (ltb-true 6 (f .kind) h, refl); is-good = refl; view-is = refl; fields-are = refl }) (λ h.
+    let known = ltb-false 6 (f .kind) h in
+    let kind-is = kind-told (f .kind) known in
+    record {
+      by-its-type = (known, refl);
+      is-good = refl;
+      view-is = refl;
+      fields-are = λ i. record { version = f .version; «msg_len» = f .«msg_len»; kind = kind-is i };
+    })
   where
-    go : (b : Bool) → ltb 6 (f .kind) ≡ b → HandsOut f v (pick b (SplitAnswer.Skipped f v) (SplitAnswer.Message (named f) v))
-    go true h = record { is-good = refl; view-is = refl; fields-are = refl; by-its-type = ltb-true 6 (f .kind) h }
-    go false h =
-        let kind-is = kind-told (f .kind) (ltb-false 6 (f .kind) h) in
-        record {
-          is-good = refl;
-          view-is = refl;
-          fields-are = λ i. record { version = f .version; «msg_len» = f .«msg_len»; kind = kind-is i };
-          by-its-type = rw kind-is (ltb-false 6 (f .kind) h);
-        }
+    by-test : (b : Bool) {x y : SplitAnswer} → (b ≡ true → HandsOut f v x) → (b ≡ false → HandsOut f v y) → HandsOut f v (pick b x y)
+    by-test true p q = p refl
+    by-test false p q = q refl
 
 pub shown-good : (r : Reading) → refusalOf (shown r) .number ≡ Number.Good
 shown-good r = ap (λ (x : Refusal). x .number) (hands-out (Fields.fieldsOf (headerOf r)) (view 0 (r .length)) .is-good)

@@ -3,11 +3,11 @@ use mathlib.Core.Path.{_≡_, sym, ap, _∙_, subst}
 use mathlib.Core.List.{List, _++_}
 use Prim.Native.Nat.{ℕ, _+_, _-_, _≤_}
 use native.Mathlib.Omega.{arith}
-use lib.Dec.{ltb}
+use lib.Dec.{ltb, eqb}
 use lib.ListN.{length, take, length-append}
 use lib.Seq.{length-take-le}
 use Rattle.wire.specs.Number as Number
-use Rattle.wire.specs.Bytes.{numAt, Bytes}
+use Rattle.wire.specs.Bytes.{has, numAt, Bytes}
 use Rattle.wire.specs.View.{view, viewed}
 use Rattle.wire.proofs.Bytes.{num-part}
 use Rattle.wire.proofs.Refuses.{pick-in}
@@ -17,7 +17,7 @@ use Rattle.wire.specs.Refuses.{Refuses}
 use Rattle.wire.specs.Waits.{Waits, MissingTells}
 use Rattle.wire.specs.Exactly.{Sound, Complete, Told, Unique}
 use Rattle.common_header.specs.Grammar as Header
-use Rattle.common_header.specs.Fields.{fieldsOf, readFields, readCommonFields}
+use Rattle.common_header.specs.Fields.{partsOf, fieldsOf, shown, readFields, readCommonFields}
 use Rattle.common_header.specs.declared.CommonFieldsAnswer.{CommonFieldsAnswer}
 use Rattle.common_header.proofs.Laws.{length-join}
 use Rattle.common_header.proofs.Promises.{fields-sound, fields-complete, fields-unique}
@@ -46,7 +46,7 @@ sound s p e =
             record {
               is-good =
                   record {
-                    header-good = subst Header.AnyType (sym (header-cut h)) (x .1 .reading .is-good);
+                    any-type = subst Header.AnyType (sym (header-cut h)) (x .1 .reading .is-good);
                     length-is = omega (arith, long, f .least);
                     short-enough = f .most;
                   };
@@ -67,7 +67,7 @@ complete r g _ short =
       most = g .short-enough;
       all-there = omega (arith, n, g .length-is, length-append (r .body) (r .rest));
     } in
-    ap (afterFields (length (join r))) (fields-complete (headerOf r) (g .header-good) tt short)
+    ap (afterFields (length (join r))) (fields-complete (headerOf r) (g .any-type) tt short)
     ∙ fitting-shown (length (join r)) (fieldsOf (headerOf r)) f
 
 -- Every good reading is told by the answer that shows it.
@@ -89,7 +89,7 @@ missing-tells = Waiting.missing-tells
 -- No stream has two first messages.
 pub unique : Unique grammar
 unique r q g h e =
-    sym (cut-header r (g .length-is)) ∙ ap cut-at (fields-unique (headerOf r) (headerOf q) (g .header-good) (h .header-good) e)
+    sym (cut-header r (g .length-is)) ∙ ap cut-at (fields-unique (headerOf r) (headerOf q) (g .any-type) (h .any-type) e)
     ∙ cut-header q (h .length-is)
 
 -- Where the splitter is good, the message that it hands out or skips is the first bytes of the stream, as many as the header's length says.
@@ -105,15 +105,24 @@ first-bytes s p e =
     let v : viewed s (view 0 (r .length)) ≡ take (r .length) s = viewed-inside s (view 0 (r .length)) (omega (arith, there)) in
     rw (x .1 .shown-so, out .view-is, out .fields-are) (v, ap length v ∙ length-take-le (r .length) s there)
 
--- A message is skipped exactly where its type is none of the seven.
-pub by-its-type : (s : List ℕ) → ByItsType (splitOf s)
-by-its-type s = go (readCommonFields s)
+-- The byte at 5 decides: up to 6 a message is handed out with the name of that type, and above that it is skipped with that type.
+pub by-its-type : (s : List ℕ) → ByItsType (numAt 1 s 5) (splitOf s)
+unfolding readFields
+by-its-type s =
+    pick-in P (ltb Number.limit (length s)) tt
+    (pick-in P (has 1 s 0) (pick-in P (eqb (numAt 1 s 0) 3) (pick-in P (has 4 s 1) (pick-in P (has 1 s 5) good tt) tt) tt) tt)
   where
-    go : (a : CommonFieldsAnswer) → ByItsType (afterFields (length s) a)
-    go (CommonFieldsAnswer.Good f) =
-        let n = f .«msg_len» in
-        pick-in ByItsType (ltb n 6) tt (pick-in ByItsType (ltb Number.limit n) tt (pick-in ByItsType (ltb (length s) n) tt (hands-out f (view 0 n) .by-its-type)))
-    go (CommonFieldsAnswer.Refused r) = tt
+    P : CommonFieldsAnswer → Type 0
+    P a = ByItsType (numAt 1 s 5) (afterFields (length s) a)
+
+    Q : SplitAnswer → Type 0
+    Q = ByItsType (numAt 1 s 5)
+
+    n : ℕ
+    n = numAt 4 s 1
+
+    good : P (shown (partsOf s))
+    good = pick-in Q (ltb n 6) tt (pick-in Q (ltb Number.limit n) tt (pick-in Q (ltb (length s) n) tt (hands-out (fieldsOf (partsOf s)) (view 0 n) .by-its-type)))
 
 -- The answer goes by the six bytes of the header and by how many there are in all: what a message holds is not read, skipped or not.
 pub header-decides : (s t : List ℕ) → take 6 s ≡ take 6 t → length s ≡ length t → splitOf s ≡ splitOf t

@@ -10,13 +10,11 @@ use Rattle.wire.specs.Bytes.{be, Bytes}
 use Rattle.wire.specs.Exactly.{Shows}
 use Rattle.wire.specs.View.{view}
 use Rattle.wire.proofs.Exactly.{shows-good}
-use Rattle.common_header.specs.Fields.{fieldsOf}
-use Rattle.common_header.specs.Rfc as Header
 use Rattle.common_header.specs.Rfc.{Message, messageLength, bytes, Conforms}
-use Rattle.common_header.specs.Shown.{named}
+use Rattle.common_header.specs.Shown.{headerFrom}
 use Rattle.common_header.proofs.Rfc.{reading-joined, reading-any}
 use Rattle.splitter.specs.Read.{splitOf, reader}
-use Rattle.splitter.specs.Rfc.{Ignored, reading}
+use Rattle.splitter.specs.Rfc.{Ignored, reading, fields}
 use Rattle.splitter.specs.declared.SplitAnswer.{SplitAnswer}
 use Rattle.splitter.proofs.Promises.{complete}
 
@@ -30,13 +28,13 @@ module _ (m : Message) (kind : m .kind < 256) (body : Bytes (m .body)) (rest : L
   shows =
       let short : messageLength m ≤ Number.limit = omega (arith, limit, bytes-long m, length-append (bytes m) rest) in
       shows-good reader complete (reading m rest)
-      (record { header-good = reading-any m kind (omega (arith, short)) body rest rest-bytes; length-is = refl; short-enough = short }) tt (bytes m ++ rest)
+      (record { any-type = reading-any m kind (omega (arith, short)) body rest rest-bytes; length-is = refl; short-enough = short }) tt (bytes m ++ rest)
       (reading-joined m rest) limit
 
 -- A conforming message is split off whole, whatever follows it, with its header.
 pub conforming-shown : (m : Message) → Conforms m → (rest : List ℕ) → Bytes rest → length (bytes m ++ rest) ≤ Number.limit
     → Shows reader (bytes m ++ rest) (reading m rest)
-    × (splitOf (bytes m ++ rest) ≡ SplitAnswer.Message (named (fieldsOf (Header.reading m rest))) (view 0 (messageLength m)))
+    × (splitOf (bytes m ++ rest) ≡ SplitAnswer.Message (headerFrom (fields m)) (view 0 (messageLength m)))
 conforming-shown m c rest rest-bytes limit =
     let x = shows m (omega (arith, c .type-known)) (c .body-bytes) rest rest-bytes limit in
     (x, x .shown-so ∙ rw (le-ltb 6 (m .kind) (c .type-known)))
@@ -44,7 +42,7 @@ conforming-shown m c rest rest-bytes limit =
 -- A message of another type is skipped whole, whatever it holds and whatever follows it, with its type and length.
 pub ignored-skipped : (m : Message) → Ignored m → (rest : List ℕ) → Bytes rest → length (bytes m ++ rest) ≤ Number.limit
     → Shows reader (bytes m ++ rest) (reading m rest)
-    × (splitOf (bytes m ++ rest) ≡ SplitAnswer.Skipped (record { version = 3; «msg_len» = messageLength m; kind = m .kind }) (view 0 (messageLength m)))
+    × (splitOf (bytes m ++ rest) ≡ SplitAnswer.Skipped (fields m) (view 0 (messageLength m)))
 ignored-skipped m i rest rest-bytes limit =
     let x = shows m (i .type-fits) (i .body-bytes) rest rest-bytes limit in
     (x, x .shown-so ∙ rw (lt-ltb 6 (m .kind) (i .type-unknown)))

@@ -1,6 +1,6 @@
 -- The first message of a BMP stream (RFC 7854, section 4.1), and then the rest of the stream:
 --
---     version, length, type   the common header, 6 bytes; the type may be any: a receiver ignores messages of types that it does not know
+--     version, length, type   the common header, 6 bytes, of any type
 --     body                    so many bytes that header and body have the header's length
 --     rest                    what follows the message
 use Prim.Native.Nat.{ℕ, _+_, _≤_}
@@ -26,7 +26,7 @@ abbrev pub join : Reading → List ℕ
 join r = Header.join (headerOf r)
 
 pub record Good (r : Reading) : Type 0 where
-  pub header-good : Header.AnyType (headerOf r)
+  pub any-type : Header.AnyType (headerOf r)
   pub length-is : r .length ≡ 6 + length (r .body)
   pub short-enough : r .length ≤ Number.limit
 

@@ -13,8 +13,8 @@ ghost use Rattle.splitter.specs.declared.SplitAnswer.{SplitAnswer};
 ghost use Rattle.splitter.specs.Shown.{handedOut};
 ghost use Rattle.splitter.specs.Read.{judged, splitOf};
 
-// The first message: its header and the view of the whole of it. One of a type that RFC 7854 does not have is skipped, and
-// has the header's fields in place of the header.
+// The first message: its header and the view of the whole of it; of a type that RFC 7854 does not have it is skipped, with the
+// header's fields in place of the header. Or why there is none.
 pub enum SplitAnswer {
     Message(BmpCommonHeader, View),
     Skipped(CommonFields, View),

@@ -16,11 +16,7 @@ type-of-requires : tie.Need-type-of-requires
 type-of-requires c κs = search needs
 
 returns-2 : tie.Need-returns-2
-returns-2 c =
-    let f = c .before .before .before .args .self in
-    let named-so = c .type-of .ensures in
-    (λ i. CommonHeaderAnswer.Good (record { version = f .version; «msg_len» = f .«msg_len»; «msg_type» = named-so i }) 6)
-    ∙ sym (rw (le-ltb 6 (f .kind) (omega (arith, c .before .if1 .left))))
+returns-2 c = sym (rw (le-ltb 6 (c .before .before .before .args .self .kind) (omega (arith, c .before .if1 .left)), ← c .type-of .ensures))
 
 pub header-spec : {M : Type 1} → statement M
 header-spec = tie.close (tie.spec refusal-at-requires returns type-of-requires returns-2)
