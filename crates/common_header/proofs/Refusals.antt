@@ -7,7 +7,7 @@ use lib.ListN.{length}
 use Rattle.wire.specs.Number as Number
 use Rattle.wire.specs.Bytes.{value, has, numAt, none}
 use Rattle.wire.specs.Refuses.{Refuses}
-use Rattle.wire.proofs.Refuses.{pick-in, Answered, is-good, is-empty, isOneOf, one-of, GivesEach, gives-too-long, refuses-from, passed, bytes-are}
+use Rattle.wire.proofs.Refuses.{pick-in, Answered, is-good, is-empty, one-of, GivesEach, gives-too-long, refuses-from, among, bytes-are}
 use Rattle.wire.proofs.Waits.{said}
 use Rattle.common_header.specs.Fields as Fields
 use Rattle.common_header.specs.Fields.{readFields, readCommonFields}
@@ -42,7 +42,7 @@ after : (a : CommonFieldsAnswer) → Answered Fields.reader a → Answered reade
 after (CommonFieldsAnswer.Good f) x =
     pick-in (Answered reader) (ltb 6 (f .kind)) (is-empty refl (one-of numbers Number.UnknownKind refl)) (is-good refl)
 after (CommonFieldsAnswer.Refused r) (is-good e) = is-good e
-after (CommonFieldsAnswer.Refused r) (is-empty e o) = is-empty refl (one-of numbers (r .number) (passed (isOneOf numbers) Fields.numbers refl (r .number) o))
+after (CommonFieldsAnswer.Refused r) (is-empty e o) = is-empty refl (among Fields.numbers numbers refl (r .number) o)
 
 -- none, version 4, and type 7
 given : GivesEach reader numbers

@@ -9,7 +9,7 @@ use Rattle.wire.specs.Bytes.{value, none}
 use Rattle.wire.specs.Refuses.{Refuses}
 use Rattle.wire.specs.View.{view}
 use Rattle.wire.specs.declared.Refusal.{Refusal}
-use Rattle.wire.proofs.Refuses.{pick-in, Answered, is-good, is-empty, isOneOf, one-of, GivesEach, refuses-from, passed, bytes-are}
+use Rattle.wire.proofs.Refuses.{pick-in, Answered, is-good, is-empty, one-of, GivesEach, refuses-from, among, bytes-are}
 use Rattle.common_header.specs.Fields as Fields
 use Rattle.common_header.specs.Fields.{readFields}
 use Rattle.common_header.specs.declared.CommonFieldsAnswer.{CommonFieldsAnswer}
@@ -26,8 +26,7 @@ after there (CommonFieldsAnswer.Good f) x =
     (pick-in P (ltb Number.limit n) (is-empty refl (one-of numbers Number.TooLong refl))
     (pick-in P (ltb there n) (is-empty refl (one-of numbers Number.Cut refl)) (is-good (ap (λ (r : Refusal). r .number) (hands-out f (view 0 n) .is-good)))))
 after there (CommonFieldsAnswer.Refused r) (is-good e) = is-good e
-after there (CommonFieldsAnswer.Refused r) (is-empty e o) =
-    is-empty refl (one-of numbers (r .number) (passed (isOneOf numbers) Fields.numbers refl (r .number) o))
+after there (CommonFieldsAnswer.Refused r) (is-empty e o) = is-empty refl (among Fields.numbers numbers refl (r .number) o)
 
 answered : (s : List ℕ) → Answered reader (splitOf s)
 answered s = after (length s) (Fields.readCommonFields s) (fields-answered s)

@@ -18,7 +18,7 @@ use Rattle.wire.specs.Rfc as Wire
 use Rattle.wire.specs.Refuses.{OneOf}
 use Rattle.wire.specs.Exactly.{Shows}
 use Rattle.wire.proofs.Bytes.{bytes-append, bytes-be}
-use Rattle.wire.proofs.Refuses.{isOneOf, one-of, passes, passed, below}
+use Rattle.wire.proofs.Refuses.{isOneOf, passes, passed, among, below}
 use Rattle.wire.proofs.Rfc.{information-good, join-together, each-together}
 use Rattle.wire.proofs.Exactly.{shows-good}
 use Rattle.stats_type.specs.Shown.{typeOf}
@@ -138,7 +138,7 @@ form-shown at kind = (
 -- A type of 0 to 17 has one of the three forms.
 pub one-form : (kind : ℕ) → kind ≤ 17 → (OneOf counters kind ⊎ (OneOf gauges kind ⊎ OneOf familyGauges kind))
 one-form kind h =
-    let in-all : OneOf all kind = one-of all kind (passed (isOneOf all) (allBelow 18) refl kind (is-below 18 kind (omega arith))) in
+    let in-all : OneOf all kind = among (allBelow 18) all refl kind (is-below 18 kind (omega arith)) in
     go (one-of-either counters (gauges ++ familyGauges) kind in-all)
   where
     all : List ℕ

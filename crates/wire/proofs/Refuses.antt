@@ -98,6 +98,10 @@ passed test (m ∷ l) t n o = go (test m) refl (passed test l) t o
     go true h i t (inr o) = i t n o
     go false h i t o = let z : _≡_ {A = ℕ} 0 1 = cc in absurd (omega arith)
 
+-- so each number of one list is one of another
+pub among : (l m : List ℕ) → passes (isOneOf m) l ≡ true → (n : ℕ) → OneOf l n → OneOf m n
+among l m t n o = one-of m n (passed (isOneOf m) l t n o)
+
 abbrev pub below : ℕ → ℕ → Bool
 below k n = ltb n k
 
