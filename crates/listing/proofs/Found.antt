@@ -18,7 +18,7 @@ use Rattle.message_answer.specs.Answer.{answerOf}
 use Rattle.listing.specs.Steps.{rowAt}
 use Rattle.listing.specs.declared.Answer.{Answer}
 use Rattle.listing.specs.declared.Row.{Row}
-use Rattle.listing.proofs.Rows.{known-stands}
+use Rattle.splitter.proofs.Stream.{known-stands}
 
 -- all from a place on
 abbrev pub from : ℕ → List ℕ → List ℕ

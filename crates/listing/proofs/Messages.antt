@@ -5,21 +5,19 @@ use Prim.Native.Nat.{ℕ, zero, suc, _+_, _-_, _≤_}
 use native.Mathlib.Omega.{arith}
 use lib.ListN.{length, drop, length-drop, take-append-drop}
 use lib.Seq.{drop-drop}
-use Rattle.wire.specs.Parts.{joinAll, endFrom, AllAt}
+use Rattle.wire.specs.Parts.{endFrom, AllAt}
 use Rattle.wire.specs.Walk.{Step, End, tail, fault, Walked, walk, next}
 use Rattle.splitter.specs.Read.{splitOf}
 use Rattle.splitter.specs.declared.SplitAnswer.{SplitAnswer}
-use Rattle.listing.specs.Listing.{Message, lengthOf, kit}
-use Rattle.listing.proofs.Rows.{bytesOf, Stands, Seen, none, refused, message, see}
+use Rattle.splitter.specs.Stream.{Message, lengthOf, joined}
+use Rattle.splitter.proofs.Stream.{Stands}
+use Rattle.listing.specs.Listing.{kit}
+use Rattle.listing.proofs.Rows.{Seen, none, refused, message, see}
 
 -- no byte is left at a place, or the splitter refuses what stands there
 abbrev pub Stops : List ℕ → ℕ → End → Type 0
 Stops s at (tail z) = at ≡ length s
 Stops s at (fault r) = splitOf (drop at s) ≡ SplitAnswer.Refused r
-
--- the bytes of messages one after the other, and then the rest
-abbrev pub joined : List Message → List ℕ → List ℕ
-joined l z = joinAll (λ (m : Message) (r : List ℕ). bytesOf m ++ r) l z
 
 abbrev pub endOf : ℕ → List Message → ℕ
 endOf at l = endFrom lengthOf at l

@@ -18,10 +18,11 @@ use Rattle.splitter.specs.Shown.{ByItsType}
 use Rattle.splitter.proofs.Promises.{by-its-type}
 use Rattle.message_answer.specs.Grammar.{GoodExactly}
 use Rattle.message_answer.proofs.Promises as MessageAnswer
-use Rattle.listing.specs.Listing.{longest, Message, known, skipped, numberOf, found, text, enough}
+use Rattle.splitter.specs.Stream.{Message, known, skipped}
+use Rattle.splitter.proofs.Stream.{splitAs, Stands}
+use Rattle.listing.specs.Listing.{longest, numberOf, found, text, enough}
 use Rattle.listing.proofs.Lengths.{text-short}
 use Rattle.listing.proofs.Messages.{Each, Walks, walks, each-so}
-use Rattle.listing.proofs.Rows.{splitAs, Stands}
 
 -- ---- the answer and the output of list_messages
 module _ (s out out′ : List ℕ) (p : Bytes s) (r : WriteAnswer) (wrote : Wrote true (text s) out r out′) where

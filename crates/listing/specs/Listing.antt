@@ -6,13 +6,10 @@ use lib.Dec.{ltb, eqb}
 use Rattle.wire.specs.Number as Number
 use Rattle.wire.specs.Bytes.{pick}
 use Rattle.wire.specs.Refusal.{refusal}
-use Rattle.wire.specs.View.{viewed}
-use Rattle.wire.specs.Walk.{Step, stop, bad, item, End, tail, fault, Walked, Kit, walk}
-use Rattle.common_header.specs.Shown.{fieldsFrom}
+use Rattle.wire.specs.Walk.{Step, stop, End, tail, fault, Walked, Kit, walk}
 use Rattle.common_header.specs.declared.BmpCommonHeader.{BmpCommonHeader}
-use Rattle.common_header.specs.declared.CommonFields.{CommonFields}
 use Rattle.splitter.specs.Read.{splitOf}
-use Rattle.splitter.specs.declared.SplitAnswer.{SplitAnswer}
+use Rattle.splitter.specs.Stream.{Message, known, skipped, fieldsOf, lengthOf, asStep}
 use Rattle.message_answer.specs.Answer.{answerOf}
 use Rattle.listing.specs.Text.{heading, messageLine, refusedLine, endLine}
 use Rattle.listing.specs.declared.Answer.{Answer}
@@ -20,18 +17,6 @@ use Rattle.listing.specs.declared.Answer.{Answer}
 -- the longest stream that is listed
 abbrev pub longest : ℕ
 longest = 65536
-
--- a message that was split off, with all of its bytes: of a known type with its common header, or skipped, with the fields of the header
-pub data Message : Type 0 where
-  known : BmpCommonHeader → List ℕ → Message
-  skipped : CommonFields → List ℕ → Message
-
-abbrev pub fieldsOf : Message → CommonFields
-fieldsOf (known h b) = fieldsFrom h
-fieldsOf (skipped f b) = f
-
-abbrev pub lengthOf : Message → ℕ
-lengthOf m = fieldsOf m .«msg_len»
 
 -- the number of a message: its type says how what follows the six bytes of the common header is read
 abbrev pub numberOf : BmpCommonHeader → List ℕ → ℕ
@@ -43,11 +28,6 @@ answer (known h b) = Answer.Number (numberOf h b)
 answer (skipped f b) = Answer.Skip
 
 -- ---- the messages of a stream
-abbrev pub asStep : List ℕ → SplitAnswer → Step Message
-asStep s (SplitAnswer.Message h v) = item (known h (viewed s v))
-asStep s (SplitAnswer.Skipped f v) = item (skipped f (viewed s v))
-asStep s (SplitAnswer.Refused r) = bad r
-
 -- the splitter is asked while bytes are left
 abbrev pub step : List ℕ → Step Message
 step s = pick (eqb (length s) 0) stop (asStep s (splitOf s))

@@ -5,7 +5,8 @@ use mathlib.Core.List.{List}
 use lib.ListN.{length, drop}
 use lib.Seq.{sets}
 use Rattle.wire.specs.Walk.{Step, stop, bad, item, walk}
-use Rattle.listing.specs.Listing.{Message, fieldsOf, lengthOf, answer, step, kit, lines}
+use Rattle.splitter.specs.Stream.{Message, fieldsOf, lengthOf}
+use Rattle.listing.specs.Listing.{answer, step, kit, lines}
 use Rattle.listing.specs.declared.Row.{Row}
 
 -- at most f messages from a place on

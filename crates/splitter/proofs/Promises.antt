@@ -26,6 +26,7 @@ use Rattle.splitter.specs.Shown.{refusalOf, messageOf, fieldsIn, ByItsTy
 use Rattle.splitter.specs.Read.{afterFields, splitOf, reader}
 use Rattle.splitter.specs.declared.SplitAnswer.{SplitAnswer}
 use Rattle.splitter.proofs.Laws.{Fitting, fitting-shown, judged-good, fields-accepted, hands-out, cut-at, header-cut, cut-header}
+use Rattle.splitter.proofs.Cases as Cases
 use Rattle.splitter.proofs.Told as ToldProofs
 use Rattle.splitter.proofs.Refusals as Refusals
 use Rattle.splitter.proofs.Waits as Waiting
@@ -131,6 +132,10 @@ header-decides s t e l =
     let same : (w at : ℕ) → at + w ≤ 6 → numAt w s (0 + at) ≡ numAt w t (0 + at) = λ w at h.
     sym (num-part w at 6 s 0 h) ∙ ap (λ (x : List ℕ). numAt w x at) e ∙ num-part w at 6 t 0 h in
     rw (l, same 1 0 (omega arith), same 4 1 (omega arith), same 1 5 (omega arith))
+
+-- What is no Cut stays what it is, whatever comes behind it.
+pub stays : (s t : List ℕ) → length (s ++ t) ≤ Number.limit → (refusalOf (splitOf s) .number ≡ Number.Cut → ⊥) → splitOf (s ++ t) ≡ splitOf s
+stays = Cases.stays
 
 -- ---- any two answers that the contract allows are equal
 pub split-determined : (s : List ℕ) (a b : SplitAnswer) → a ≡ splitOf s → b ≡ splitOf s → a ≡ b

@@ -163,8 +163,8 @@ FaultsIn K P = (s : List ℕ) (r : Refusal) → K .step s ≡ bad r → P (r .nu
 pub faults-in : (K : Kit) (P : ℕ → Type 0) → ((s : List ℕ) → BadIn P (K .step s)) → FaultsIn K P
 faults-in K P m s r e = subst (BadIn P) e (m s)
 
-module _ (K : Kit) (P : ℕ → Type 0) (m : FaultsIn K P) (many : P Number.TooMany) where
-  walk-fault : (f : ℕ) (s : List ℕ) (r : Refusal) → walk K f s .end ≡ fault r → P (r .number)
+module _ (K : Kit) (P : ℕ → Type 0) (m : FaultsIn K P) where
+  pub walk-fault : (f : ℕ) (s : List ℕ) (r : Refusal) → walk K f s .end ≡ fault r → P (r .number)
   unfolding walk
   walk-fault zero s r e = let x : _≡_ {A = ℕ} 0 1 = cc in absurd (omega arith)
   walk-fault (suc f) s r e = go (K .step s) refl (λ a. walk-fault f (drop (K .size a) s) r) e
@@ -175,21 +175,22 @@ module _ (K : Kit) (P : ℕ → Type 0) (m : FaultsIn K P) (many : P Number.TooM
       go (bad d) h i q = let y : d ≡ r = cc in subst (λ (j : Refusal). P (j .number)) y (m s d h)
       go (item a) h i q = i a q
 
-  fill-fault : (l : List (K .Item)) (n at : ℕ) (table : List (K .Entry)) (e : End) (r : Refusal)
-      → ((d : Refusal) → e ≡ fault d → P (d .number)) → fill K n at table l e ≡ refused r → P (r .number)
-  unfolding fill
-  fill-fault [] n at table (tail z) r h q = let x : _≡_ {A = ℕ} 0 1 = cc in absurd (omega arith)
-  fill-fault [] n at table (fault d) r h q = let y : from at d ≡ r = cc in subst (λ (j : Refusal). P (j .number)) y (h d refl)
-  fill-fault (a ∷ l) n at table e r h q =
-      go (leb (K .limit) n) refl (fill-fault l (n + 1) (at + K .size a) (set table n (K .entry at a)) e r h)
-    where
-      go : (d : Bool) → leb (K .limit) n ≡ d → (fill K (n + 1) (at + K .size a) (set table n (K .entry at a)) l e ≡ refused r → P (r .number)) → P (r .number)
-      go true v i = let y : refusal Number.TooMany at ≡ r = cc in subst (λ (j : Refusal). P (j .number)) y many
-      go false v i = i (rw v at q)
+  module _ (many : P Number.TooMany) where
+    fill-fault : (l : List (K .Item)) (n at : ℕ) (table : List (K .Entry)) (e : End) (r : Refusal)
+        → ((d : Refusal) → e ≡ fault d → P (d .number)) → fill K n at table l e ≡ refused r → P (r .number)
+    unfolding fill
+    fill-fault [] n at table (tail z) r h q = let x : _≡_ {A = ℕ} 0 1 = cc in absurd (omega arith)
+    fill-fault [] n at table (fault d) r h q = let y : from at d ≡ r = cc in subst (λ (j : Refusal). P (j .number)) y (h d refl)
+    fill-fault (a ∷ l) n at table e r h q =
+        go (leb (K .limit) n) refl (fill-fault l (n + 1) (at + K .size a) (set table n (K .entry at a)) e r h)
+      where
+        go : (d : Bool) → leb (K .limit) n ≡ d → (fill K (n + 1) (at + K .size a) (set table n (K .entry at a)) l e ≡ refused r → P (r .number)) → P (r .number)
+        go true v i = let y : refusal Number.TooMany at ≡ r = cc in subst (λ (j : Refusal). P (j .number)) y many
+        go false v i = i (rw v at q)
 
-  pub fault-in : (f at : ℕ) (s : List ℕ) (r : Refusal) → readFrom K f at s ≡ refused r → P (r .number)
-  fault-in f at s r e =
-      fill-fault (walk K f (drop at s) .items) 0 at (replicate (K .limit) (K .none)) (walk K f (drop at s) .end) r (walk-fault f (drop at s)) e
+    pub fault-in : (f at : ℕ) (s : List ℕ) (r : Refusal) → readFrom K f at s ≡ refused r → P (r .number)
+    fault-in f at s r e =
+        fill-fault (walk K f (drop at s) .items) 0 at (replicate (K .limit) (K .none)) (walk K f (drop at s) .end) r (walk-fault f (drop at s)) e
 
 -- a refusal's number is not that of a good answer, where each fault's is not
 abbrev pub Faults : Kit → Type 0

@@ -1,0 +1,150 @@
+-- What the splitter says of some bytes, case by case. Assumes nothing.
+use mathlib.Core.Path.{_≡_, refl, sym, ap, _∙_, subst}
+use mathlib.Core.Bool.{Bool, true, false}
+use mathlib.Core.List.{List, _++_}
+use Prim.Native.Nat.{ℕ, _+_, _-_, _≤_, _<_}
+use native.Mathlib.Omega.{arith}
+use borrow.Author.Tests.{ltb-true, ltb-false, eqb-true, eqb-false, eq-eqb, ne-eqb, le-ltb, le-leb, lt-leb}
+use lib.Dec.{ltb, eqb}
+use lib.ListN.{length, length-append}
+use Rattle.wire.specs.Number as Number
+use Rattle.wire.specs.Bytes.{pick, numAt, value}
+use Rattle.wire.specs.Refusal.{refusal, lacking, cutAt}
+use Rattle.wire.specs.View.{view}
+use Rattle.wire.specs.declared.Refusal.{Refusal}
+use Rattle.wire.proofs.Waits.{part-more}
+use Rattle.common_header.specs.Fields.{partsOf, fieldsOf, readFields}
+use Rattle.common_header.specs.declared.CommonFields.{CommonFields}
+use Rattle.splitter.specs.Shown.{handedOut, refusalOf}
+use Rattle.splitter.specs.Read.{judged, splitOf}
+use Rattle.splitter.specs.declared.SplitAnswer.{SplitAnswer}
+use Rattle.splitter.proofs.Laws.{Fitting, fitting-shown}
+
+-- the length field and all three fields, where they are there
+abbrev pub lengthIn : List ℕ → ℕ
+lengthIn s = numAt 4 s 1
+
+abbrev pub fieldsIn : List ℕ → CommonFields
+fieldsIn s = fieldsOf (partsOf s)
+
+-- a header is there, and its version is right
+pub record Headed (s : List ℕ) : Type 0 where
+  pub six : 6 ≤ length s
+  pub three : numAt 1 s 0 ≡ 3
+
+-- not all of the header is there, and what is may be the start of one; then the version; then the length; then how many bytes are there
+pub data Case (s : List ℕ) : SplitAnswer → Type 0 where
+  early : {r : Refusal} → length s < 6 → (0 < length s → numAt 1 s 0 ≡ 3) → r .number ≡ Number.Cut → length s + r .missing ≤ 6 → Case s (SplitAnswer.Refused r)
+  other-version : 0 < length s → (numAt 1 s 0 ≡ 3 → ⊥) → Case s (SplitAnswer.Refused (refusal Number.BadVersion 0))
+  bad-length : Headed s → (r : Refusal) → (r .number ≡ Number.Cut → ⊥) → 0 < r .number → ((there : ℕ) → judged there (fieldsIn s) ≡ SplitAnswer.Refused r)
+      → Case s (SplitAnswer.Refused r)
+  part : Headed s → 6 ≤ lengthIn s → lengthIn s ≤ Number.limit → length s < lengthIn s → Case s (SplitAnswer.Refused (lacking 6 (lengthIn s - length s)))
+  whole : Headed s → Fitting (length s) (lengthIn s) → Case s (handedOut (fieldsIn s) (view 0 (lengthIn s)))
+
+module _ (s : List ℕ) (short : length s ≤ Number.limit) where
+  not-long : ltb Number.limit (length s) ≡ false
+  not-long = le-ltb Number.limit (length s) short
+
+  split-none : length s ≡ 0 → splitOf s ≡ SplitAnswer.Refused (cutAt (length s) 0 1)
+  unfolding readFields
+  split-none e = rw (not-long, lt-leb 1 (length s - 0) (omega (arith, e)))
+
+  pub split-version : 0 < length s → (numAt 1 s 0 ≡ 3 → ⊥) → splitOf s ≡ SplitAnswer.Refused (refusal Number.BadVersion 0)
+  unfolding readFields
+  split-version one v = rw (not-long, le-leb 1 (length s - 0) (omega (arith, one)), ne-eqb (numAt 1 s 0) 3 v)
+
+  module _ (one : 0 < length s) (three : numAt 1 s 0 ≡ 3) where
+    split-length : length s < 5 → splitOf s ≡ SplitAnswer.Refused (cutAt (length s) 1 4)
+    unfolding readFields
+    split-length l =
+        rw (not-long, le-leb 1 (length s - 0) (omega (arith, one)), eq-eqb (numAt 1 s 0) 3 three, lt-leb 4 (length s - 1) (omega (arith, l, one)))
+
+    split-kind : length s ≡ 5 → splitOf s ≡ SplitAnswer.Refused (cutAt (length s) 5 1)
+    unfolding readFields
+    split-kind l =
+        rw (not-long, le-leb 1 (length s - 0) (omega (arith, one)), eq-eqb (numAt 1 s 0) 3 three, le-leb 4 (length s - 1) (omega (arith, l)), lt-leb 1 (length s - 5) (omega (arith, l)))
+
+  -- a whole header: then the length decides
+  pub split-headed : Headed s → splitOf s ≡ judged (length s) (fieldsIn s)
+  unfolding readFields
+  split-headed w =
+      let six = w .six in
+      rw (not-long, le-leb 1 (length s - 0) (omega (arith, six)), eq-eqb (numAt 1 s 0) 3 (w .three), le-leb 4 (length s - 1) (omega (arith, six)), le-leb 1 (length s - 5) (omega (arith, six)))
+
+  by-length : Headed s → Case s (judged (length s) (fieldsIn s))
+  by-length w = go (ltb n 6) refl (ltb Number.limit n) refl (ltb (length s) n) refl
+    where
+      n : ℕ
+      n = lengthIn s
+
+      go : (a : Bool) → ltb n 6 ≡ a → (b : Bool) → ltb Number.limit n ≡ b → (c : Bool) → ltb (length s) n ≡ c
+          → Case s (pick a (SplitAnswer.Refused (refusal Number.BadMessageLength 1)) (pick b (SplitAnswer.Refused (refusal Number.TooLong 1))
+          (pick c (SplitAnswer.Refused (lacking 6 (n - length s))) (handedOut (fieldsIn s) (view 0 n)))))
+      go true ha b hb c hc = bad-length w (refusal Number.BadMessageLength 1) (λ e. absurd (omega (arith, e))) (omega arith) (λ there. rw ha)
+      go false ha true hb c hc = bad-length w (refusal Number.TooLong 1) (λ e. absurd (omega (arith, e))) (omega arith) (λ there. rw (ha, hb))
+      go false ha false hb true hc = part w (ltb-false n 6 ha) (ltb-false Number.limit n hb) (ltb-true (length s) n hc)
+      go false ha false hb false hc = whole w (record { least = ltb-false n 6 ha; most = ltb-false Number.limit n hb; all-there = ltb-false (length s) n hc })
+
+  is : {a : SplitAnswer} → splitOf s ≡ a → Case s a → Case s (splitOf s)
+  is e x = subst (Case s) (sym e) x
+
+  pub split-case : Case s (splitOf s)
+  split-case = go (eqb (length s) 0) refl (eqb (numAt 1 s 0) 3) refl (ltb (length s) 6) refl (eqb (length s) 5) refl
+    where
+      go : (a : Bool) → eqb (length s) 0 ≡ a → (b : Bool) → eqb (numAt 1 s 0) 3 ≡ b → (c : Bool) → ltb (length s) 6 ≡ c → (d : Bool) → eqb (length s) 5 ≡ d
+          → Case s (splitOf s)
+      go true ha b hb c hc d hd =
+          let none = eqb-true (length s) 0 ha in
+          is (split-none none) (early (omega (arith, none)) (λ one. absurd (omega (arith, none, one))) refl (omega (arith, none)))
+      go false ha false hb c hc d hd =
+          let some = eqb-false (length s) 0 ha in
+          let one : 0 < length s = omega (arith, some) in
+          let v = eqb-false (numAt 1 s 0) 3 hb in
+          is (split-version one v) (other-version one v)
+      go false ha true hb true hc d hd =
+          let some = eqb-false (length s) 0 ha in
+          let few = ltb-true (length s) 6 hc in
+          in-header (omega (arith, some)) (eqb-true (numAt 1 s 0) 3 hb) few d hd
+        where
+          in-header : 0 < length s → numAt 1 s 0 ≡ 3 → length s < 6 → (d : Bool) → eqb (length s) 5 ≡ d → Case s (splitOf s)
+          in-header one three few true e =
+              let five = eqb-true (length s) 5 e in
+              is (split-kind one three five) (early few (λ _. three) refl (omega (arith, five)))
+          in-header one three few false e =
+              let not-five = eqb-false (length s) 5 e in
+              let less : length s < 5 = omega (arith, few, not-five) in
+              is (split-length one three less) (early few (λ _. three) refl (omega (arith, less, one)))
+      go false ha true hb false hc d hd =
+          let w : Headed s = record { six = ltb-false (length s) 6 hc; three = eqb-true (numAt 1 s 0) 3 hb } in
+          is (split-headed w) (by-length w)
+
+-- ---- bytes that come behind a header do not change it
+module _ (s t : List ℕ) where
+  pub number-more : (w at : ℕ) → at + w ≤ length s → numAt w (s ++ t) at ≡ numAt w s at
+  number-more w at h = ap value (part-more w at s t h)
+
+  pub fields-more : Headed s → fieldsIn (s ++ t) ≡ fieldsIn s
+  fields-more w =
+      let six = w .six in
+      rw (number-more 1 0 (omega (arith, six)), number-more 4 1 (omega (arith, six)), number-more 1 5 (omega (arith, six)))
+
+  pub headed-more : Headed s → Headed (s ++ t)
+  headed-more w =
+      let six = w .six in
+      record { six = omega (arith, six, length-append s t); three = number-more 1 0 (omega (arith, six)) ∙ w .three }
+
+  -- what is no Cut stays what it is, whatever comes behind it
+  pub stays : length (s ++ t) ≤ Number.limit → (refusalOf (splitOf s) .number ≡ Number.Cut → ⊥) → splitOf (s ++ t) ≡ splitOf s
+  stays short decided = go (splitOf s) (split-case s (omega (arith, short, longer))) decided
+    where
+      longer : length (s ++ t) ≡ length s + length t
+      longer = length-append s t
+
+      go : (a : SplitAnswer) → Case s a → (refusalOf a .number ≡ Number.Cut → ⊥) → splitOf (s ++ t) ≡ a
+      go _ (early l v e m) d = absurd (d e)
+      go _ (other-version one v) d = split-version (s ++ t) short (omega (arith, one, longer)) (λ e. v (sym (number-more 1 0 (omega (arith, one))) ∙ e))
+      go _ (bad-length w r c p e) d = split-headed (s ++ t) short (headed-more w) ∙ ap (judged (length (s ++ t))) (fields-more w) ∙ e (length (s ++ t))
+      go _ (part w l m f) d = absurd (d refl)
+      go _ (whole w f) d =
+          let there : Fitting (length (s ++ t)) (lengthIn s) = record { least = f .least; most = f .most; all-there = omega (arith, f .all-there, longer) } in
+          split-headed (s ++ t) short (headed-more w) ∙ ap (judged (length (s ++ t))) (fields-more w) ∙ fitting-shown (length (s ++ t)) (fieldsIn s) there
