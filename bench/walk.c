@@ -1,4 +1,4 @@
-/* The same readers, writers and lister in plain C, for bench/run: the same checks in the same order into the same records, and the fold of
+/* The same readers, writers, lister and receiver in plain C, for bench/run: the same checks in the same order into the same records, and the fold of
    bench/ours/lib.rattle, so that the two can be compared number by number. A table is filled as far as it goes and not cleared. */
 #include <stddef.h>
 #include <stdint.h>
@@ -9,9 +9,11 @@
 #define COUNTERS 64
 #define LONGEST 65536
 #define ENOUGH 196656
+#define BUFFER 65536
+#define LONGEST_PIECE 4096
 
 enum { GOOD, TOO_LONG, CUT, BAD_VERSION, UNKNOWN_KIND, BAD_TLV_TYPE, BGP_LENGTH, TOO_MANY, BAD_OPEN_BMP, UNSUPPORTED, BAD_MESSAGE_LENGTH,
-       NO_ROOM, BAD_FIELD };
+       NO_ROOM, BAD_FIELD, STREAM_TOO_BIG = 15 };
 enum { MONITORING, STATISTICS, PEER_DOWN, PEER_UP, INITIATION, TERMINATION, MIRRORING };
 enum { LOC_RIB = 3, IPV6 = 0x80, SHORT_AS = 0x20 };
 
@@ -487,6 +489,77 @@ uint64_t c_list(const uint8_t *s, size_t n, uint8_t *out, size_t room) {
     }
     if (r.number) o = put_field(put_text(put_field(o, at, ' '), "- - "), r.number, '\n');
     return put_field(put_text(o, "end "), at, '\n') - out;
+}
+
+/* ---- a session in pieces */
+
+enum { WAITING = 1, MESSAGE, SKIPPED, REFUSED };
+typedef struct { size_t held; Refusal standing; } Receiver;
+typedef struct { int what; size_t missing; Common header; Refusal refusal; } Outcome;
+
+static size_t least(size_t a, size_t b) { return a < b ? a : b; }
+
+static void judge(const uint8_t *s, size_t n, Outcome *o) {
+    Refusal r = split(s, n, &o->header);
+    if (!r.number) {
+        o->what = known(&o->header) ? MESSAGE : SKIPPED;
+    } else if (r.number == CUT && r.missing <= BUFFER - n) {
+        o->what = WAITING, o->missing = r.missing;
+    } else {
+        o->what = REFUSED, o->refusal = r.number == CUT ? refused(STREAM_TOO_BIG, 1) : r;
+    }
+}
+
+/* How many bytes are copied before the next judgement; a first byte that is no version is the last one taken. */
+static size_t next_run(size_t held, size_t missing, uint8_t first) {
+    if (held >= 6) return missing;
+    return held == 0 && first != 3 ? 1 : 6 - held;
+}
+
+static size_t refuse(Refusal r, Outcome *o) {
+    o->what = REFUSED, o->refusal = r;
+    return 0;
+}
+
+static size_t receive(uint8_t *buffer, size_t room, Receiver *state, const uint8_t *piece, size_t n, Outcome *o) {
+    size_t held = state->held, took = 0;
+    if (room != BUFFER) return refuse(refused(NO_ROOM, 0), o);
+    if (n > LONGEST_PIECE) return refuse(refused(TOO_LONG, 0), o);
+    if (state->standing.number) return refuse(state->standing, o);
+    if (held > BUFFER) return refuse(refused(BAD_FIELD, 0), o);
+    judge(buffer, held, o);
+    if (o->what != WAITING) return refuse(refused(BAD_FIELD, 0), o);
+    while (took < n && o->what == WAITING) {
+        size_t run = least(next_run(held, o->missing, piece[took]), n - took);
+        memcpy(buffer + held, piece + took, run);
+        took += run, held += run;
+        judge(buffer, held, o);
+    }
+    state->held = o->what == WAITING || o->what == REFUSED ? held : 0;
+    if (o->what == REFUSED) state->standing = o->refusal;
+    return took;
+}
+
+static uint64_t of_outcome(const Outcome *o) {
+    if (o->what == REFUSED) return of_refusal(o->refusal);
+    if (o->what == WAITING) return mix(WAITING, o->missing);
+    uint64_t h = mix(with_view(o->what, (View){0, o->header.length}), o->header.version);
+    return mix(mix(h, o->header.length), o->header.kind);
+}
+
+uint64_t c_session(uint8_t *buffer, size_t room, const uint8_t *stream, size_t n, const uint8_t *sized, size_t size) {
+    (void)sized;
+    Receiver state = {0, good};
+    uint64_t h = 0;
+    for (size_t at = 0, end = 0; at < n;) {
+        if (at == end) end = at + least(size, n - at);
+        Outcome o;
+        size_t took = receive(buffer, room, &state, stream + at, end - at, &o);
+        h = mix(h, mix(mix(mix(took, of_outcome(&o)), state.held), of_refusal(state.standing)));
+        if (took == 0) break;
+        at += took;
+    }
+    return h;
 }
 
 /* ---- writers: what was read is written again */

@@ -25,6 +25,8 @@ import cases
 import counters
 import damaged
 import listing
+import receive
+import receive_cases
 import records
 import replay
 
@@ -882,6 +884,537 @@ class Boards(unittest.TestCase):
         self.assertEqual(looks[-1], {"0000000000000000": 60, "0000fde800000001": 70, "0000fde80000000b": 70})
 
 
+def splitter_says(stream):
+    """The messages of a stream and what stands behind them, a refusal or None: the splitter, asked at each boundary about at most 65,536 bytes.
+
+    It does not know of 15, which goes by the header at a boundary.
+    """
+    messages, place = [], 0
+    while True:
+        window = stream[place : place + 65_536]
+        if len(window) >= 6 and window[0] == 3 and 65_537 <= int.from_bytes(window[1:5], "big") <= 1_048_576:
+            return messages, (15, 1)
+        try:
+            found = bmp.split(window)
+        except bmp.Refused as refusal:
+            return messages, None if refusal.number == bmp.CUT else (refusal.number, refusal.place)
+        messages.append((type(found.record), window[: found.stop]))
+        place += found.stop
+
+
+class PlainReceiver:
+    """A receiver once more, as plain as can be: the bytes held are a value of their own, and what `split` answers of them is read as a text."""
+
+    def __init__(self):
+        self.held, self.standing, self.lent = b"", "", 65_536
+
+    def came(self, data):
+        """What stands behind `held`; nothing where the bytes are cut."""
+        word, *rest = ask("split", data.hex()).split()
+        if word != "refused":
+            return f" {'message' if word == 'good' else word} {data.hex()}"
+        if rest[0] != "2":
+            return f" refused {' '.join(rest)}"
+        return " refused 15 at 1" if rest[2] == "6" and len(data) + int(rest[4]) > 65_536 else ""
+
+    def call(self, piece):
+        """How many bytes are taken, and what stands behind `held`."""
+        if self.lent != 65_536:
+            return 0, " refused 11 at 0"
+        if len(piece) > 4_096:
+            return 0, " refused 1 at 0"
+        if self.standing:
+            return 0, self.standing
+        if self.came(self.held):
+            return 0, " refused 12 at 0"
+        took = next((took for took in range(1, len(piece) + 1) if self.came(self.held + piece[:took])), len(piece))
+        self.held += piece[:took]
+        came = self.came(self.held)
+        if came.startswith(" refused"):
+            self.standing = came
+        elif came:
+            self.held = b""
+        return took, came
+
+    def answer(self, line):
+        """Of sizes it knows those that the random lines have."""
+        verb, _space, text = line.partition(b" ")
+        data = replay.bytes_of(text)
+        if verb == b"piece" and data is not None:
+            took, came = self.call(data)
+            return f"took {took} held {len(self.held)}{came}"
+        if line == b"reset":
+            self.held, self.standing = b"", ""
+        elif verb == b"forge" and data is not None:
+            self.held = data
+        elif verb == b"size" and text in (b"0", b"65535", b"65536", b"65537"):
+            self.lent = int(text)
+        else:
+            return "bad line"
+        return "ok"
+
+
+class RandomSessions:
+    """Streams and cuts that look random and are the same at every run."""
+
+    def __init__(self, seed):
+        self.random = random.Random(seed)
+
+    def message(self, body=None):
+        body = self.random.choice([0, 0, 1, 2, 5, 20, 60, 300]) if body is None else body
+        return damaged.of_type(self.random.choice([*range(8), 9, 128, 255]), self.random.randbytes(body))
+
+    def long_message(self):
+        """Of a length about the longest; those that are longer are refused."""
+        length = self.random.choice([65_534, 65_535, 65_536, 65_536, 65_537, 65_538])
+        return damaged.of_type(self.random.choice([0, 6, 7]), self.random.randbytes(length - 6))
+
+    def fault(self):
+        """A message that is refused by its version, or by its length."""
+        if self.random.randrange(3) == 0:
+            return bytes([self.random.choice([0, 1, 2, 4, 131, 255])]) + self.message()[1:]
+        length = self.random.choice([0, 1, 4, 5, 65_537, 65_792, 1_048_576, 1_048_577, 0x06000000, 2**32 - 1])
+        return damaged.of_type(self.random.choice([0, 4, 7, 255]), b"\x03" * self.random.randrange(9), length)
+
+    def stream(self):
+        """Good messages, one of them longer than any piece; or one of them refused, bytes of them damaged, or the last one cut."""
+        messages = [self.message() for _ in range(self.random.randrange(12))]
+        kind = self.random.randrange(4)
+        if kind in (0, 3):
+            messages.insert(self.random.randrange(len(messages) + 1), self.fault() if kind == 0 else self.message(5_000))
+        stream = bytearray(b"".join(messages))
+        if kind == 1 and stream:
+            for _ in range(3):
+                stream[self.random.randrange(len(stream))] = self.random.choice([0, 1, 3, 4, 6, 255])
+        if kind == 2:
+            del stream[self.random.randrange(len(stream) + 1) :]
+        return bytes(stream)
+
+    def pieces(self, stream, largest=None):
+        """The stream in pieces, of which some have no bytes: of one, of few, of any number, or as long as may be."""
+        largest = largest or self.random.choice([1, 3, 8, 100, 4_096])
+        start = 0
+        while start < len(stream):
+            size = 0 if self.random.randrange(10) == 0 else self.random.randint(1, largest)
+            yield stream[start : start + size]
+            start += size
+        yield b""
+
+
+class Caller:
+    """Puts a session to a receiver, each piece again until it is used up, and checks of each call what holds of all."""
+
+    def __init__(self, test, stream, buffer=None):
+        self.test, self.stream = test, stream
+        self.receiver, self.buffer = receive.Receiver(), memoryview(bytearray(65_536) if buffer is None else buffer)
+        self.messages, self.boundary, self.taken = [], 0, 0
+
+    def call(self, piece):
+        """After each call the messages joined and the bytes held are the bytes taken; each message was compared when it came."""
+        took, came = self.receiver.receive(self.buffer, piece)
+        self.taken += took
+        if isinstance(came, (bmp.Message, bmp.Skipped)):
+            whole = bytes(self.buffer[: came.header.msg_len])
+            self.messages.append((type(came), whole))
+            self.test.assertEqual(whole, self.stream[self.boundary : self.taken])
+            self.boundary = self.taken
+        if isinstance(came, receive.Waiting):
+            self.test.assertEqual(took, len(piece))
+            self.test.assertGreater(came.missing, 0)
+        self.test.assertEqual(bytes(self.buffer[: self.receiver.held]), self.stream[self.boundary : self.taken])
+        return took, came
+
+    def put(self, pieces):
+        """A refusal ends a piece, since nothing is taken any more; the other pieces are put all the same."""
+        for piece in pieces:
+            took, came = self.call(piece)
+            while took < len(piece) and not isinstance(came, bmp.Refused):
+                piece = piece[took:]
+                took, came = self.call(piece)
+        return self.messages, self.standing()
+
+    def standing(self):
+        refusal = self.receiver.standing
+        return None if refusal is None else (refusal.number, refusal.place)
+
+
+class Receiving(unittest.TestCase):
+    """The receiver and its lines, by hand from the rules."""
+
+    MESSAGE = "03 0000000b 04 0002000141"
+
+    CALLS = """
+        03 00000009; 06 ff     | took 5, held 5, waiting for 1; took 2, held 7, waiting for 2
+        03 00000006 04 03; 03  | took 6, a message, held 0; took 1, held 1, waiting for 4
+        02 03; 03; -; 03       | took 1, held 1, 3 at 0; took 0, held 1, 3 at 0; took 0, held 1, 3 at 0; took 0, held 1, 3 at 0
+        03 00010001 04         | took 6, held 6, 15 at 1
+        03 00100001 04         | took 6, held 6, 1 at 1
+        03 00000005; 07        | took 5, held 5, waiting for 1; took 1, held 6, 10 at 1
+    """
+
+    LINES = """
+        piece 0300                 | took 2 held 2
+        piece 00000604030000000607 | took 4 held 0 message 030000000604
+        piece 030000000607         | took 6 held 0 skipped 030000000607
+        piece 0203                 | took 1 held 1 refused 3 at 0
+        piece 03                   | took 0 held 1 refused 3 at 0
+        size 65537                 | ok
+        piece -                    | took 0 held 1 refused 11 at 0
+    """
+
+    def setUp(self):
+        self.session = receive.Session()
+
+    def ask(self, line):
+        return receive.answer(self.session, line if isinstance(line, bytes) else line.encode())
+
+    def check(self, *asked):
+        for line, expected in asked:
+            self.assertEqual(self.ask(line), expected, line[:99])
+
+    def call(self, text):
+        """A call in the words of the rules' table."""
+        took, came = self.session.receiver.receive(memoryview(self.session.array)[:65_536], bytes.fromhex(text.strip().strip("-")))
+        held = self.session.receiver.held
+        if isinstance(came, receive.Waiting):
+            return f"took {took}, held {held}, waiting for {came.missing}"
+        if isinstance(came, bmp.Refused):
+            return f"took {took}, held {held}, {came.number} at {came.place}"
+        return f"took {took}, a {type(came).__name__.lower()}, held {held}"
+
+    def test_calls(self):
+        for line in self.CALLS.strip().splitlines():
+            calls, answers = line.split("|")
+            self.ask("reset")
+            self.assertEqual("; ".join(self.call(text) for text in calls.split(";")), answers.strip())
+
+    def test_lines(self):
+        self.check(*[[side.strip() for side in line.split("|")] for line in self.LINES.strip().splitlines()])
+
+    def test_missing(self):
+        """What the field lacks: the version 1, the length 4, the type 1, and then the rest of the message."""
+        whole = bytes.fromhex(self.MESSAGE)
+        for held, missing in enumerate([1, 4, 3, 2, 1, 1, 5, 4, 3, 2, 1]):
+            self.assertEqual(self.call("-"), f"took 0, held {held}, waiting for {missing}")
+            if held:
+                self.ask("reset")
+                self.assertEqual(self.call(whole[:held].hex()), f"took {held}, held {held}, waiting for {missing}")
+            self.call(whole[held : held + 1].hex())
+        self.assertEqual(self.call("-"), "took 0, held 0, waiting for 1")
+        for header, missing in (("03 00010000 00", 65_530), ("03 00010000 ff", 65_530), ("03 0000ffff 05", 65_529), ("03 00000007 80", 1)):
+            self.ask("reset")
+            self.assertEqual(self.call(header), f"took 6, held 6, waiting for {missing}")
+
+    def test_one_message_a_call(self):
+        one, two, three = digits(self.MESSAGE), "030000000607", "0300000007c8ff"
+        self.check(
+            (f"piece {one}{two}{three}03", f"took 11 held 0 message {one}"),
+            (f"piece {two}{three}03", f"took 6 held 0 skipped {two}"),
+            (f"piece {three}03", f"took 7 held 0 skipped {three}"),
+            ("piece 03", "took 1 held 1"),
+            (f"piece {one[2:]}{one}", f"took 10 held 0 message {one}"),
+            (f"piece {one[:20]}", "took 10 held 10"),
+            (f"piece {one[20:]}", f"took 1 held 0 message {one}"),
+            ("piece -", "took 0 held 0"),
+        )
+
+    def test_types(self):
+        """Each of the 256, and whatever the body is."""
+        for kind in range(256):
+            word = "message" if kind <= 6 else "skipped"
+            for text in (f"0300000006{kind:02x}", f"030000000c{kind:02x}020000000504"):
+                self.check((f"piece {text}02", f"took {len(text) // 2} held 0 {word} {text}"))
+
+    def test_long_messages(self):
+        """65,535 and 65,536 bytes are handed out, whole; one more is refused with the sixth byte."""
+        for length, kind, word in ((65_535, 0, "message"), (65_536, 6, "message"), (65_536, 7, "skipped")):
+            header = f"03{length:08x}{kind:02x}"
+            self.check((f"piece {header}", "took 6 held 6"))
+            self.check(*[(f"piece 4096*{number:02x}", f"took 4096 held {6 + 4096 * (number + 1)}") for number in range(15)])
+            body = "".join(4096 * f"{number:02x}" for number in range(15)) + (length - 61_446) * "aa"
+            self.check((f"piece {length - 61_446}*aa+03", f"took {length - 61_446} held 0 {word} {header}{body}"))
+        self.check(("piece 030001000106", "took 6 held 6 refused 15 at 1"))
+
+    def test_versions(self):
+        """The first byte is refused alone, with what stands behind it, and behind a message."""
+        for version in {*range(256)} - {3}:
+            self.check(
+                (f"piece {version:02x}", "took 1 held 1 refused 3 at 0"),
+                ("reset", "ok"),
+                (f"piece {version:02x}0000000504", "took 1 held 1 refused 3 at 0"),
+                ("piece 030000000604", "took 0 held 1 refused 3 at 0"),
+                ("reset", "ok"),
+                (f"piece 030000000604{version:02x}", "took 6 held 0 message 030000000604"),
+                (f"piece {version:02x}", "took 1 held 1 refused 3 at 0"),
+                ("reset", "ok"),
+            )
+
+    def test_lengths(self):
+        """Judged with the sixth byte and no earlier, whatever the type; what stands behind that byte is not taken."""
+        for length, refusal in (
+            (0, "10 at 1"), (1, "10 at 1"), (2, "10 at 1"), (3, "10 at 1"), (4, "10 at 1"), (5, "10 at 1"),
+            (65_537, "15 at 1"), (65_538, "15 at 1"), (131_072, "15 at 1"), (1_048_575, "15 at 1"), (1_048_576, "15 at 1"),
+            (1_048_577, "1 at 1"), (2_097_152, "1 at 1"), (0x06000000, "1 at 1"), (0xFFFFFFFF, "1 at 1"),
+        ):  # fmt: skip
+            for kind in (*range(8), 9, 200, 255):
+                self.check(
+                    (f"piece 03{length:08x}", "took 5 held 5"),
+                    (f"piece {kind:02x}03", f"took 1 held 6 refused {refusal}"),
+                    (f"piece 03{length:08x}", f"took 0 held 6 refused {refusal}"),
+                    ("reset", "ok"),
+                    (f"piece 03{length:08x}{kind:02x}030000000604", f"took 6 held 6 refused {refusal}"),
+                    ("piece -", f"took 0 held 6 refused {refusal}"),
+                    ("reset", "ok"),
+                )
+
+    def test_order(self):
+        """A wrong size, a piece that is too long, what stands, what is held wrongly; each is said of a call that has all that follow it too."""
+        self.check(
+            ("piece 02", "took 1 held 1 refused 3 at 0"),
+            ("forge 030000000604", "ok"),
+            ("size 65535", "ok"),
+            ("piece 4097*02", "took 0 held 6 refused 11 at 0"),
+            ("size 65536", "ok"),
+            ("piece 4097*02", "took 0 held 6 refused 1 at 0"),
+            ("piece 4096*02", "took 0 held 6 refused 3 at 0"),
+            ("reset", "ok"),
+            ("forge 030000000604", "ok"),
+            ("piece 4097*02", "took 0 held 6 refused 1 at 0"),
+            ("piece 4096*02", "took 0 held 6 refused 12 at 0"),
+            ("size 0", "ok"),
+            ("piece -", "took 0 held 6 refused 11 at 0"),
+            ("size 65536", "ok"),
+            ("forge -", "ok"),
+            ("piece 4096*02", "took 1 held 1 refused 3 at 0"),
+        )
+
+    def test_what_does_not_stand(self):
+        """11, 1 at 0 and 12 take nothing, and the next call that is right goes on as if they had not been."""
+        whole = digits(self.MESSAGE)
+        for held in range(11):
+            start, rest = whole[: 2 * held] or "-", whole[2 * held :]
+            self.check(
+                (f"piece {start}", f"took {held} held {held}"),
+                (f"piece {rest}+4097*00", f"took 0 held {held} refused 1 at 0"),
+                ("size 65537", "ok"),
+                (f"piece {rest}", f"took 0 held {held} refused 11 at 0"),
+                ("size 65536", "ok"),
+                ("forge 0300000006ff00", "ok"),
+                (f"piece {rest}", "took 0 held 7 refused 12 at 0"),
+                ("piece -", "took 0 held 7 refused 12 at 0"),
+                (f"forge {start}", "ok"),
+                (f"piece {rest}", f"took {11 - held} held 0 message {whole}"),
+            )
+
+    def test_what_stands(self):
+        """It is given again as it was, until the reset."""
+        for brings, held, refusal in (("ff", 1, "3 at 0"), ("030000000004", 6, "10 at 1"), ("03ffffffff04", 6, "1 at 1"), ("030010000004", 6, "15 at 1")):
+            again = f"took 0 held {held} refused {refusal}"
+            self.check(
+                (f"piece {brings}", f"took {held} held {held} refused {refusal}"),
+                ("piece -", again),
+                ("piece 030000000604", again),
+                ("piece 4096*03", again),
+                ("piece 4097*03", f"took 0 held {held} refused 1 at 0"),
+                ("size 1", "ok"),
+                ("piece 03", f"took 0 held {held} refused 11 at 0"),
+                ("size 65536", "ok"),
+                ("piece 03", again),
+                ("forge 03000000", "ok"),
+                ("piece 06", f"took 0 held 4 refused {refusal}"),
+                ("forge 65537*03", "ok"),
+                ("piece -", f"took 0 held 65537 refused {refusal}"),
+                ("reset", "ok"),
+                ("piece -", "took 0 held 0"),
+                ("piece 030000000604", "took 6 held 0 message 030000000604"),
+            )
+
+    def test_forged(self):
+        """What is held may be any start of an unfinished message, and nothing else."""
+        for text, held in (
+            ("030000000604", 6), ("030000000607", 6), ("03000000060403", 7), ("030000000b040002000141", 11), ("02", 1), ("0400000006", 5),
+            ("030000000504", 6), ("0300000000ff00", 7), ("030001000104", 6), ("030010000004", 6), ("030010000104", 6), ("03ffffffff04", 6),
+            ("030001000004+65530*03", 65_536), ("030001000104+65530*03", 65_536), ("030001000104+65531*03", 65_537), ("65537*03", 65_537),
+        ):  # fmt: skip
+            self.check((f"forge {text}", "ok"), ("piece -", f"took 0 held {held} refused 12 at 0"), ("piece 03", f"took 0 held {held} refused 12 at 0"))
+            self.check(("forge 0300", "ok"), ("piece 0000060403", "took 4 held 0 message 030000000604"))
+        for text, held, missing in (
+            ("-", 0, 1), ("03", 1, 4), ("030000", 3, 2), ("0300000005", 5, 1), ("0300010001", 5, 1), ("03ffffffff", 5, 1), ("030000000704", 6, 1),
+            ("0300000008ff00", 7, 1), ("030001000004+65529*03", 65_535, 1), ("030001000004", 6, 65_530),
+        ):  # fmt: skip
+            self.check((f"forge {text}", "ok"), ("piece -", f"took 0 held {held}"))
+            self.assertEqual(self.call("-"), f"took 0, held {held}, waiting for {missing}")
+
+    def test_changed_bytes(self):
+        """It is the buffer that is asked, at each call."""
+        start = digits(self.MESSAGE)[:18]
+        for forged, answer in (
+            ("030000000b04eeeeee", "took 2 held 0 message 030000000b04eeeeee0141"),
+            ("030000000b09000200", "took 2 held 0 skipped 030000000b090002000141"),
+            ("030000000a04000200", "took 1 held 0 message 030000000a0400020001"),
+            ("030000000c04000200", "took 2 held 11"),
+            ("030000000b04", "took 2 held 8"),
+            ("030000000904000200", "took 0 held 9 refused 12 at 0"),
+            ("040000000b04000200", "took 0 held 9 refused 12 at 0"),
+        ):
+            self.check(("reset", "ok"), (f"piece {start}", "took 9 held 9"), (f"forge {forged}", "ok"), ("piece 0141", answer))
+
+    def test_sizes(self):
+        """Only 65,536 bytes are enough, and no more than they; a reset leaves what is lent."""
+        for size in (0, 1, 6, 4_096, 65_535, 65_537):
+            self.check(
+                ("piece 03", "took 1 held 1"),
+                (f"size {size}", "ok"),
+                ("piece 00", "took 0 held 1 refused 11 at 0"),
+                ("reset", "ok"),
+                ("piece 03", "took 0 held 0 refused 11 at 0"),
+                ("forge 0300", "ok"),
+                ("piece -", "took 0 held 2 refused 11 at 0"),
+                ("size 65536", "ok"),
+                ("piece 00", "took 1 held 3"),
+                ("reset", "ok"),
+            )
+
+    def test_array(self):
+        """Of the array a call changes the bytes behind those held, as many as it takes; a forgery those it brings; a reset and a bad line none."""
+        array = self.session.array
+        array[:] = expected = bytearray(random.Random(1).randbytes(65_537))
+        for line, held, taken in (
+            ("piece 0300", 0, "0300"), ("piece -", 2, ""), ("piece 00000b04aabbcc", 2, "00000b04aabbcc"), ("piece 4097*03", 9, ""), ("reset ", 9, ""),
+            ("piece ddee02ffff", 9, "ddee"), ("piece 02ffff", 0, "02"), ("piece 03", 1, ""), ("reset", 1, ""), ("piece 03000000050707", 0, "030000000507"),
+            ("forge 0300000006041122", 0, "0300000006041122"), ("piece ff", 8, ""), ("reset", 8, ""), ("forge 0300000006041122", 0, "0300000006041122"),
+            ("piece ff", 8, ""), ("size 9", 8, ""), ("piece ff", 8, ""), ("forge -", 8, ""), ("piece ff", 0, ""), ("size 65536", 0, ""),
+            ("forge 65538*00", 0, ""), ("piece 0300010000ff", 0, "0300010000ff"),
+        ):  # fmt: skip
+            self.ask(line)
+            expected[held : held + len(taken) // 2] = bytes.fromhex(taken)
+            self.assertEqual(array, expected, line)
+
+    def test_bad_lines(self):
+        """After each of them as many bytes are held, as large a part is lent, and nothing stands."""
+        self.check(("piece 030000", "took 3 held 3"))
+        lines = ["reset ", " reset", "Reset", "reset -", "reset 00", "reset\r", "piece", "piece ", "piece  00", "piece 00 ", "piece 0", "piece 0A",
+                 "piece 00\r", "Piece 00", "piece00", "piece - -", "piece 00 00", "piece 0*00", "piece 1048578*00", "size", "size ", "size 65538",
+                 "size 065536", "size 00", "size -1", "size +1", "size 1 ", "size  1", "size ff", "size 0x1", "size 99999999999999999999", "size 1\r",
+                 "Size 1", "size1", "forge", "forge ", "forge  03", "forge 0", "forge 03 ", "forge AA", "forge 65538*03", "forge 65537*03+03",
+                 "forge 1048577*03", "Forge 03", "forge03", "forge -\r", "took", "-", " "]
+        for line in [*lines, "piece " + "00" * 65_536 + "0", "piece 10*" + "00" * 65_535, "forge " + "1*00+" * 26_214 + "1*00"]:
+            self.check((line, "bad line"), ("piece -", "took 0 held 3"))
+        self.check(("piece 000604", "took 3 held 0 message 030000000604"))
+
+    def test_longest_lines(self):
+        self.check(("piece " + "00" * 65_536, "took 0 held 0 refused 1 at 0"), ("piece 1048577*00", "took 0 held 0 refused 1 at 0"))
+        self.check(("forge 1*030001000004" + "00" * 65_529, "ok"), ("piece -", "took 0 held 65535"))
+
+    def test_list(self):
+        """Each answer of the list has its form, each refusal and place is there, and each bad line is one."""
+        counts = r"took (0|[1-9]\d*) held (0|[1-9]\d*)"
+        words = re.compile(rf"bad line|ok|{counts}(?: (message|skipped) ([0-9a-f]+)| refused ((?:3|11|12|1) at 0|(?:10|1|15) at 1))?")
+        refusals, longest, bad = set(), [], 0
+        for line in receive_cases.lines():
+            found = words.fullmatch(self.ask(line)) if line else None
+            self.assertEqual(found is None, not line, line[:99])
+            if found:
+                bad += found[0] == "bad line"
+                refusals |= {found[5]}
+                longest += [len(found[4]) // 2] if found[4] and len(found[4]) > 100_000 else []
+        self.assertEqual(refusals - {None}, {"3 at 0", "11 at 0", "12 at 0", "1 at 0", "10 at 1", "1 at 1", "15 at 1"})
+        self.assertEqual(sorted(longest), [65_535, 65_536, 65_536])
+        self.assertGreater(bad, len(list(receive_cases.bad_lines())))
+        self.assertEqual({self.ask(line) for line in receive_cases.bad_lines()}, {"bad line"})
+
+
+class Sessions(unittest.TestCase):
+    """What holds of all sessions, however they are cut: by random ones, and the splitter asked beside."""
+
+    def check_end(self, caller):
+        """All is taken; or the last byte taken is the one that brings the refusal, so that without it nothing would stand."""
+        if caller.standing() is None:
+            self.assertEqual(caller.taken, len(caller.stream))
+            return
+        self.assertEqual(splitter_says(caller.stream[: caller.taken])[1], caller.standing())
+        self.assertIsNone(splitter_says(caller.stream[: caller.taken - 1])[1])
+
+    def test_cuts(self):
+        """Four cuts of each stream; what is handed out and what stands are the splitter's, so they are the same for all four."""
+        seen = set()
+        for seed in range(160):
+            sessions = RandomSessions(seed)
+            stream = sessions.stream()
+            expected = splitter_says(stream)
+            seen |= {expected[1]} | {kind for kind, _whole in expected[0]}
+            for _ in range(4):
+                caller = Caller(self, stream)
+                self.assertEqual(caller.put(sessions.pieces(stream)), expected)
+                self.check_end(caller)
+        self.assertEqual(seen, {None, (3, 0), (10, 1), (1, 1), (15, 1), bmp.Message, bmp.Skipped})
+
+    def test_every_cut_in_two(self):
+        """A stream that has each kind of message, and then each refusal: cut at every place, and with a piece of no bytes there."""
+        good = bytes.fromhex("030000000b 04 0002000141 030000000607 0300000009c8ffffff 030000000604")
+        for fault in ("02", "030000000507", "030001000104", "0300100001ff", "030001000004"):
+            stream = good + bytes.fromhex(fault) + good
+            expected = splitter_says(stream)
+            for cut in range(len(stream) + 1):
+                caller = Caller(self, stream)
+                self.assertEqual(caller.put([stream[:cut], b"", stream[cut:]]), expected)
+                self.check_end(caller)
+
+    def test_long_messages(self):
+        """Lengths about the longest, with other messages before and behind."""
+        seen = set()
+        for seed in range(10):
+            sessions = RandomSessions(seed)
+            stream = sessions.message() + sessions.long_message() + sessions.message() + sessions.long_message()
+            expected = splitter_says(stream)
+            seen |= {expected[1]} | {len(whole) for _kind, whole in expected[0] if len(whole) > 65_000}
+            caller = Caller(self, stream)
+            self.assertEqual(caller.put(sessions.pieces(stream, 4_096)), expected)
+            self.check_end(caller)
+        self.assertEqual(seen, {None, (15, 1), 65_534, 65_535, 65_536})
+
+    def test_missing(self):
+        """What is missing is what the splitter says of the bytes since the boundary."""
+        for seed in range(100):
+            sessions = RandomSessions(seed)
+            stream = sessions.stream()
+            caller = Caller(self, stream)
+            for byte in stream:
+                _took, came = caller.call(bytes([byte]))
+                if isinstance(came, receive.Waiting):
+                    with self.assertRaises(bmp.Refused) as refusal:
+                        bmp.split(stream[caller.boundary : caller.taken])
+                    self.assertEqual((refusal.exception.number, refusal.exception.missing), (bmp.CUT, came.missing))
+
+    def test_buffer(self):
+        """What stands in the buffer at first has no say, and of it the bytes taken are changed, behind those held, and no others."""
+        for seed in range(40):
+            sessions = RandomSessions(seed)
+            stream = sessions.stream()
+            buffer = bytearray(sessions.random.randbytes(65_536))
+            caller = Caller(self, stream, buffer)
+            for piece in sessions.pieces(stream, 50):
+                expected, held = bytearray(buffer), caller.receiver.held
+                took, _came = caller.call(piece)
+                expected[held : held + took] = piece[:took]
+                self.assertEqual(buffer, expected)
+                if took < len(piece):
+                    break
+
+    def test_against_a_plainer_receiver(self):
+        """All lines in any order, with forgeries, other sizes and bad lines between."""
+        seen = set()
+        for seed in range(1000, 1600):
+            session, plain = receive.Session(), PlainReceiver()
+            for line in receive_cases.any_calls(seed):
+                answer = receive.answer(session, line)
+                self.assertEqual(answer, plain.answer(line), line)
+                seen.add(re.sub(r"took \d+ held \d+|(?<=message|skipped) .*", "", answer))
+        refusals = {f" refused {text}" for text in ("3 at 0", "11 at 0", "12 at 0", "1 at 0", "10 at 1", "1 at 1", "15 at 1")}
+        self.assertEqual(seen, {"", "ok", "bad line", " message", " skipped", *refusals})
+
+
+
 class Programs(unittest.TestCase):
     """The programs as they are run."""
 
@@ -904,6 +1437,13 @@ class Programs(unittest.TestCase):
         expected = f"count=0 peers=[]\nok\nbad line\nbad line\ncount=1 peers=[{Boards.KEY}]\nok\ncount=0 peers=[]\nok\nnone yet\n"
         self.assertEqual(self.run_program("boards.py", given=given), expected.encode())
         self.assertEqual(self.run_program("boards.py"), b"")
+
+    def test_receive(self):
+        given = b"piece 0300\n\npiece 00\r\nreset \nsize 1\n\n\npiece -\nsize 65536\n\x0breset\npiece 0000060403\npiece 03\nreset\npiece 02"
+        expected = ["took 2 held 2", "bad line", "bad line", "ok", "took 0 held 2 refused 11 at 0", "ok", "bad line", "took 4 held 0 message 030000000604"]
+        expected += ["took 1 held 1", "ok", "took 1 held 1 refused 3 at 0"]
+        self.assertEqual(self.run_program("receive.py", given=given), "".join(line + "\n" for line in expected).encode())
+        self.assertEqual(self.run_program("receive.py"), b"")
 
     def test_listing(self):
         self.assertEqual(self.run_program("listing.py", given=self.STREAM), self.LISTING)
@@ -1253,6 +1793,20 @@ class Recordings(unittest.TestCase):
             self.assertEqual(len(got), expected + 2)
             self.assertTrue(all(line.endswith(" 0") for line in got[1:-1]))
             self.assertEqual(got[-1], f"end {len(stream)}")
+
+        self.each(check)
+
+    def test_receiving(self):
+        """Cut at random they come out as they are, in each of three cuts as many as the summary counts."""
+
+        def check(stream, messages, lines):
+            wholes = [stream[message.place : message.place + message.length] for message in messages]
+            self.assertEqual(len(wholes), int(re.search(r" (\d+) messages,", lines[0])[1]))
+            for largest in (30, 700, 4_096):
+                caller = Caller(self, stream)
+                received = caller.put(RandomSessions(largest).pieces(stream, largest))
+                self.assertEqual(received, ([(bmp.Message, whole) for whole in wholes], None))
+                self.assertEqual((caller.taken, caller.receiver.held), (len(stream), 0))
 
         self.each(check)
 

@@ -74,6 +74,11 @@ pub fn good() -> Vec<Row> {
     ]
 }
 
+/// Messages of so many bytes, of each type in turn, one behind the other.
+pub fn session(length: usize, count: usize) -> Vec<u8> {
+    (0..count).flat_map(|i| message(i as u8 % 7, &vec![i as u8; length - 6])).collect()
+}
+
 /// Whole messages whose headers tell a body's reader what the rows do not: a Loc-RIB, and IPv6.
 pub fn messages() -> [Vec<u8>; 3] {
     let named = peer_up(&[tlv(3, b"default"), tlv(0, b"text")].concat());

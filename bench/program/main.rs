@@ -1,4 +1,4 @@
-//! Measures our readers and writers, the original's readers and the C walk on the same bytes in one run, and prints the figures as Markdown.
+//! Measures our readers, writers and receiver, the original's readers and the C walk on the same bytes in one run, and prints the figures as Markdown.
 //! Built by bench/run, which puts these files beside the oracle's stand-ins and the original files.
 
 mod agree;
@@ -103,6 +103,12 @@ fn line(label: &str, times: &[Times]) -> Ratios {
     Ratios { label: label.to_string(), of_rust, to_c }
 }
 
+/// Of nanoseconds a byte. The ratio is that of the times, as in the other tables, which is C/ours of the speeds.
+fn line_of_speeds(label: &str, times: &[Times]) {
+    let shown = |of: &Times| format!("{:.0} ({:.0})", 1000.0 / of.best(), 1000.0 / median(of.0.clone()));
+    println!("| {label} | {} | - | {} | - | {:.2} |", shown(&times[0]), shown(&times[1]), times[0].ratio(&times[1]));
+}
+
 /// An aim, and the rows that miss it.
 fn aim(text: &str, rows: &[&Ratios], missed: impl Fn(&Ratios) -> Option<f64>) {
     let rows: Vec<String> = rows.iter().filter_map(|row| missed(row).map(|ratio| format!("{} ({ratio:.2})", row.label))).collect();
@@ -195,6 +201,25 @@ fn list_row(sides: [Side; 2], streams: &[Stream], rounds: usize) -> Ratios {
     line(&format!("{}, {} bytes, {count} messages", longest.name, part.len()), &times)
 }
 
+/// Each side has a buffer of its own.
+fn receive(side: Side, stream: &'static [u8], size: usize) -> Batch<'static> {
+    let (session, mut buffer) = (side.session(), vec![0; agree::BUFFER]);
+    batch(move || session(black_box(&mut buffer), black_box(stream), black_box(&agree::PIECE[..size])))
+}
+
+fn received_rows(sides: [Side; 2], streams: &[Stream], rounds: usize) {
+    println!("\n| Received, MB/s | ours | Rust | C | ours/Rust | C/ours |\n|---|---|---|---|---|---|");
+    let made = [100, 1_000, 60_000].map(|length| (format!("Messages of {length} bytes"), inputs::session(length, 240_000 / length)));
+    let recorded = (format!("All {} streams", streams.len()), streams.iter().flat_map(|stream| stream.bytes).copied().collect());
+    for (name, bytes) in made.into_iter().chain([recorded]) {
+        let stream: &'static [u8] = bytes.leak();
+        for size in [1, 100, 4_096] {
+            let batches = sides.map(|side| receive(side, stream, size)).into();
+            line_of_speeds(&format!("{name}, pieces of {size}"), &measure(batches, rounds, stream.len()));
+        }
+    }
+}
+
 /// The words are the library of the two sides, how many rounds are made, and the streams.
 fn main() {
     let words: Vec<String> = std::env::args().collect();
@@ -212,5 +237,6 @@ fn main() {
     let whole = stream_rows(sides, &streams, rounds);
     head("Listed, ns a message");
     let listed = list_row(sides, &streams, rounds);
+    received_rows(sides, &streams, rounds);
     aims(&read, &whole, &[listed]);
 }

@@ -51,4 +51,13 @@ impl Side {
         let read: unsafe extern "C" fn(*const u8, usize, *mut u64) -> usize = unsafe { transmute(self.function("message")) };
         move |s, sum| unsafe { read(s.as_ptr(), s.len(), sum) }
     }
+
+    /// Receives a stream in pieces that are as long as the last slice.
+    pub fn session(self) -> impl Fn(&mut [u8], &[u8], &[u8]) -> u64 {
+        type Session = unsafe extern "C" fn(*mut u8, usize, *const u8, usize, *const u8, usize) -> u64;
+        let receive: Session = unsafe { transmute(self.function("session")) };
+        move |buffer, stream, size| unsafe {
+            receive(buffer.as_mut_ptr(), buffer.len(), stream.as_ptr(), stream.len(), size.as_ptr(), size.len())
+        }
+    }
 }

@@ -9,7 +9,7 @@ use Rattle.wire.specs.Refusal.{refusal}
 use Rattle.wire.specs.Walk.{Step, stop, End, tail, fault, Walked, Kit, walk}
 use Rattle.common_header.specs.declared.BmpCommonHeader.{BmpCommonHeader}
 use Rattle.splitter.specs.Read.{splitOf}
-use Rattle.splitter.specs.Stream.{Message, known, skipped, fieldsOf, lengthOf, asStep}
+use Rattle.splitter.specs.Stream.{Message, known, skipped, fieldsOf, lengthOf, asStep, messagesBy}
 use Rattle.message_answer.specs.Answer.{answerOf}
 use Rattle.listing.specs.Text.{heading, messageLine, refusedLine, endLine}
 use Rattle.listing.specs.declared.Answer.{Answer}
@@ -32,18 +32,8 @@ answer (skipped f b) = Answer.Skip
 abbrev pub step : List ℕ → Step Message
 step s = pick (eqb (length s) 0) stop (asStep s (splitOf s))
 
--- a walk that fills no table
 abbrev pub kit : Kit
-kit =
-    record {
-      Item = Message;
-      Entry = Unit {0};
-      step = step;
-      size = lengthOf;
-      entry = λ at m. tt;
-      none = tt;
-      limit = 0;
-    }
+kit = messagesBy step
 
 -- the messages, and where the walk ended: at the stream's end, or at a refusal of the splitter. A stream that is too long is
 -- refused before any message

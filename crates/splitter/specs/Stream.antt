@@ -3,7 +3,7 @@ use Prim.Native.Nat.{ℕ}
 use mathlib.Core.List.{List, _++_}
 use Rattle.wire.specs.Parts.{joinAll}
 use Rattle.wire.specs.View.{viewed}
-use Rattle.wire.specs.Walk.{Step, bad, item}
+use Rattle.wire.specs.Walk.{Step, bad, item, Kit}
 use Rattle.common_header.specs.Shown.{fieldsFrom}
 use Rattle.common_header.specs.declared.BmpCommonHeader.{BmpCommonHeader}
 use Rattle.common_header.specs.declared.CommonFields.{CommonFields}
@@ -34,3 +34,16 @@ abbrev pub asStep : List ℕ → SplitAnswer → Step Message
 asStep s (SplitAnswer.Message h v) = item (known h (viewed s v))
 asStep s (SplitAnswer.Skipped f v) = item (skipped f (viewed s v))
 asStep s (SplitAnswer.Refused r) = bad r
+
+-- a walk over messages, by what stands at the front of some bytes; it fills no table
+abbrev pub messagesBy : (List ℕ → Step Message) → Kit
+messagesBy step =
+    record {
+      Item = Message;
+      Entry = Unit {0};
+      step = step;
+      size = lengthOf;
+      entry = λ at m. tt;
+      none = tt;
+      limit = 0;
+    }

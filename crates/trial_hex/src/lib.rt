@@ -160,7 +160,8 @@ fn times_of(part: &[u8]) -> usize
     1
 }
 
-fn number_of(text: &[u8]) -> usize
+// A number from 1 to 1,048,577 in decimal digits without a leading zero, 0 where a text is none.
+pub fn number_of(text: &[u8]) -> usize
     ensures { λ r. ⌜ (r ≡ timesFrom 0 (now (text .entry))) × (r ≤ 1048577) ⌝ }
 {
     let mut n: usize = 0;

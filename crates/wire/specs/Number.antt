@@ -46,6 +46,9 @@ BoardFull = 13
 abbrev pub NoPeer : ℕ
 NoPeer = 14
 
+abbrev pub StreamTooBig : ℕ
+StreamTooBig = 15
+
 -- the longest slice that is read, and the longest message that is split off or written
 abbrev pub limit : ℕ
 limit = 1048576

@@ -52,6 +52,9 @@ pub const BOARD_FULL: u8 = 13;
 // The peer is not on the board.
 pub const NO_PEER: u8 = 14;
 
+// A message of the session is longer than the receiver's buffer.
+pub const STREAM_TOO_BIG: u8 = 15;
+
 // The longest slice that is read, and the longest message that is split off or written.
 pub const LIMIT: usize = 1_048_576;
 
