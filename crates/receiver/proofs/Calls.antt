@@ -23,6 +23,11 @@ module _ (b : List ℕ) (st : Receiver) (xs : List ℕ) where
   pub refused-so : (r : Refusal) (a : Received) → receiveOf b st xs ≡ refused st r → a ≡ refused st r → Answers a b
   refused-so r a e f = (f ∙ sym e, paste-zero b (st .held) xs ∙ ap (λ (x : Received). paste b (st .held) xs (x .took)) (sym e))
 
+  -- one that is not has the bytes taken in it
+  pub taken-so : receiveOf b st xs ≡ taken (take (st .held) b) xs → (a : Received) (b′ : List ℕ)
+      → (a ≡ taken (take (st .held) b) xs) × (b′ ≡ paste b (st .held) xs (a .took)) → Answers a b′
+  taken-so t a b′ e = (e .0 ∙ sym t, e .1 ∙ ap (λ (x : Received). paste b (st .held) xs (x .took)) (e .0 ∙ sym t))
+
   pub other-size : (length b ≡ room → ⊥) → receiveOf b st xs ≡ refused st (refusal Number.NoRoom 0)
   unfolding receiveOf
   other-size n = rw (ne-eqb (length b) room n)
@@ -52,10 +57,6 @@ module _ (b : List ℕ) (st : Receiver) (xs : List ℕ) where
           unfolding receiveOf
           goes-on w =
               rw (eq-eqb (length b) room size, le-ltb longestPiece (length xs) short, eq-eqb (st .standing .number) Number.Good free, le-ltb (length b) (st .held) inside, w)
-
-          pub taken-so : waiting (judgeOf (take (st .held) b)) ≡ true → (a : Received) (b′ : List ℕ)
-              → (a ≡ taken (take (st .held) b) xs) × (b′ ≡ paste b (st .held) xs (a .took)) → Answers a b′
-          taken-so w a b′ e = (e .0 ∙ sym (goes-on w), e .1 ∙ ap (λ (x : Received). paste b (st .held) xs (x .took)) (e .0 ∙ sym (goes-on w)))
 
         -- one of the two: there are not so many, or they do not wait
         pub bad-held : (st .held ≤ length b → waiting (judgeOf (take (st .held) b)) ≡ false) → receiveOf b st xs ≡ refused st (refusal Number.BadField 0)

@@ -17,6 +17,7 @@ use Rattle.wire.proofs.Refuses.{pick-in}
 use Rattle.common_header.specs.declared.BmpCommonHeader.{BmpCommonHeader}
 use Rattle.common_header.specs.declared.CommonFields.{CommonFields}
 use Rattle.splitter.specs.Shown.{handedOut}
+use Rattle.splitter.specs.Read as Read
 use Rattle.splitter.specs.Read.{splitOf}
 use Rattle.splitter.specs.declared.SplitAnswer.{SplitAnswer}
 use Rattle.splitter.proofs.Laws.{Fitting, fitting-shown}
@@ -44,11 +45,16 @@ said h (SplitAnswer.Refused r) = go (eqb (r .number) Number.Cut) refl (tooBig h)
     go true ha false hb = said-cut r (eqb-true (r .number) Number.Cut ha) hb
     go false ha b hb = said-refused r (eqb-false (r .number) Number.Cut ha)
 
+-- what brings a refusal of the splitter: the first byte, or the length of a whole header
+pub data Brought (h : List ℕ) (r : Refusal) : Type 0 where
+  by-version : 0 < length h → (numAt 1 h 0 ≡ 3 → ⊥) → r ≡ refusal Number.BadVersion 0 → Brought h r
+  by-header : Headed h → (r .number ≡ Number.BadVersion → ⊥) → ((there : ℕ) → Read.judged there (fieldsIn h) ≡ SplitAnswer.Refused r) → Brought h r
+
 -- ---- what the bytes are: the start of a header; the start of a message; refused by the splitter; too big; a message
 pub data Judged (h : List ℕ) : Outcome → Type 0 where
   in-header : (m : ℕ) → length h < 6 → (0 < length h → numAt 1 h 0 ≡ 3) → length h + m ≤ 6 → Judged h (Outcome.Waiting m)
   in-body : Headed h → 6 ≤ lengthIn h → lengthIn h ≤ room → length h < lengthIn h → Judged h (Outcome.Waiting (lengthIn h - length h))
-  refused : (r : Refusal) → splitOf h ≡ SplitAnswer.Refused r → (r .number ≡ Number.Cut → ⊥) → 0 < r .number → Judged h (Outcome.Refused r)
+  refused : (r : Refusal) → splitOf h ≡ SplitAnswer.Refused r → (r .number ≡ Number.Cut → ⊥) → 0 < r .number → Brought h r → Judged h (Outcome.Refused r)
   too-big : Headed h → room < lengthIn h → lengthIn h ≤ Number.limit → Judged h (Outcome.Refused streamTooBig)
   message : Headed h → Fitting (length h) (lengthIn h) → Judged h (outcomeOf h (handedOut (fieldsIn h) (view 0 (lengthIn h))))
 
@@ -73,10 +79,10 @@ module _ (h : List ℕ) (most : length h ≤ room) where
     where
       go : (a : SplitAnswer) → Case h a → splitOf h ≡ a → Judged h (outcomeOf h a)
       go _ (early {r} l v e m) q = subst (Judged h) (sym (cut-early r e l)) (in-header (r .missing) l v m)
-      go _ (other-version one v) q = refused (refusal Number.BadVersion 0) q (λ e. absurd (omega (arith, e))) (omega arith)
-      go _ (bad-length w r c p e) q =
+      go _ (other-version one v) q = refused (refusal Number.BadVersion 0) q (λ e. absurd (omega (arith, e))) (omega arith) (by-version one v refl)
+      go _ (bad-length w r c v p e) q =
           let o : outcomeOf h (SplitAnswer.Refused r) ≡ Outcome.Refused r = rw (ne-eqb (r .number) Number.Cut c) in
-          subst (Judged h) (sym o) (refused r q c p)
+          subst (Judged h) (sym o) (refused r q c p (by-header w v e))
       go _ (part w l m f) q = by-room (ltb room (lengthIn h)) refl
         where
           by-room : (b : Bool) → ltb room (lengthIn h) ≡ b → Judged h (outcomeOf h (SplitAnswer.Refused (lacking 6 (lengthIn h - length h))))
@@ -96,7 +102,7 @@ module _ (h : List ℕ) (most : length h ≤ room) where
       go : (a : SplitAnswer) → Case h a → waiting (outcomeOf h a) ≡ true
       go _ (early {r} l v e m) = ap waiting (cut-early r e l)
       go _ (other-version one v) = absurd (v (three one))
-      go _ (bad-length w r c p e) = let six = w .six in absurd (omega (arith, six, few))
+      go _ (bad-length w r c v p e) = let six = w .six in absurd (omega (arith, six, few))
       go _ (part w l m f) = let six = w .six in absurd (omega (arith, six, few))
       go _ (whole w f) = let six = w .six in absurd (omega (arith, six, few))
 
@@ -127,7 +133,7 @@ module _ (h : List ℕ) (most : length h ≤ room) where
   room-says _ (early {r} l v e m) =
       rw (eq-eqb (r .number) Number.Cut e, not-yet h l, le-ltb (room - length h) (r .missing) (omega (arith, m, l)))
   room-says _ (other-version one v) = refl
-  room-says _ (bad-length w r c p e) = rw (ne-eqb (r .number) Number.Cut c)
+  room-says _ (bad-length w r c v p e) = rw (ne-eqb (r .number) Number.Cut c)
   room-says _ (part w l m f) = go (ltb room (lengthIn h)) refl
     where
       n : ℕ

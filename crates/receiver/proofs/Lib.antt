@@ -1,6 +1,7 @@
 pub mod Judging
 pub mod Runs
+pub mod First
+pub mod Missing
 pub mod Taking
 pub mod Calls
-pub mod Missing
 pub mod Promises

@@ -63,7 +63,7 @@ still-fits h t m most e few = go (judgeOf h) (judged h (omega (arith, most, long
     go _ (in-body w l u f) q =
         let six = w .six in
         by-length (h ++ t) (headed-more h t w) ∙ rw (number-more h t 4 1 (omega (arith, six))) (le-ltb room _ u)
-    go _ (refused r s c p) q = apart cc
+    go _ (refused r s c p b) q = apart cc
     go _ (too-big w l u) q = apart cc
     go _ (message w f) q = absurd (true≢false (sym (ap waiting e) ∙ whole-message h (omega (arith, most, long)) w f))
 

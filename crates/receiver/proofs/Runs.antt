@@ -1,22 +1,21 @@
 -- Bytes taken in runs: as many as are taken one by one. Assumes nothing.
-use mathlib.Core.Path.{_≡_, refl, sym, ap, _∙_, subst}
+use mathlib.Core.Path.{_≡_, refl, sym, ap, _∙_}
 use mathlib.Core.Bool.{Bool, true, false, true≢false}
 use mathlib.Core.List.{List, [], _∷_, _++_, append-assoc}
 use Prim.Native.Nat.{ℕ, zero, suc, _+_, _-_, _≤_, _<_}
 use native.Mathlib.Omega.{arith}
 use native.Mathlib.Nat.{add-zero}
-use borrow.Author.Tests.{ltb-true, ltb-false, eqb-true, eqb-false, ne-eqb}
+use borrow.Author.Tests.{ltb-true, ltb-false, eqb-true, eqb-false, le-ltb}
 use lib.Dec.{ltb, eqb}
 use lib.ListN.{length, take, drop, length-append, length-drop}
 use lib.Seq.{length-take-le, drop-length}
-use Rattle.wire.specs.Bytes.{pick, numAt, numberAt}
-use Rattle.wire.proofs.Bytes.{number-is, num-part}
+use Rattle.wire.specs.Bytes.{pick, numAt}
 use Rattle.wire.proofs.Refuses.{pick-in}
 use Rattle.splitter.proofs.Cases.{lengthIn, Headed, number-more, headed-more}
 use Rattle.receiver.specs.Receive.{room, judgeOf, waiting, tookOf}
-use Rattle.receiver.specs.Steps.{shorter, firstRun, headerRun}
+use Rattle.receiver.specs.Steps.{shorter}
 use Rattle.receiver.specs.declared.Outcome.{Outcome}
-use Rattle.receiver.proofs.Judging.{Judged, in-header, in-body, refused, too-big, message, judged, waits-early, wrong-version, waits-in-body, whole-message}
+use Rattle.receiver.proofs.Judging.{Judged, in-header, in-body, refused, too-big, message, judged, waits-early, waits-in-body, whole-message}
 
 -- ---- a run of k bytes, of which none but the last can end the taking
 pub took-run : (k : ℕ) (h xs : List ℕ) → 0 < k → k ≤ length xs → ((j : ℕ) → 0 < j → j < k → waiting (judgeOf (h ++ take j xs)) ≡ true)
@@ -51,6 +50,16 @@ shorter-le a b = go (ltb a b) refl
     go true e = let z = ltb-true a b e in (omega arith, omega (arith, z))
     go false e = let z = ltb-false a b e in (omega (arith, z), omega arith)
 
+pub shorter-left : (a b : ℕ) → a ≤ b → shorter a b ≡ a
+shorter-left a b l = go (ltb a b) refl
+  where
+    go : (c : Bool) → ltb a b ≡ c → pick c a b ≡ a
+    go true e = refl
+    go false e = let z = ltb-false a b e in omega (arith, z, l)
+
+pub shorter-right : (a b : ℕ) → b < a → shorter a b ≡ b
+shorter-right a b l = rw (le-ltb a b (omega (arith, l)))
+
 -- ---- the body: a message that lacks some bytes takes as many, or all that there are
 pub record InBody (h : List ℕ) (missing : ℕ) : Type 0 where
   pub headed : Headed h
@@ -67,7 +76,7 @@ in-body-of h m most e six = go (judgeOf h) (judged h most) e
     go _ (in-body w l u f) q =
         let z : lengthIn h - length h ≡ m = cc in
         record { headed = w; low = l; high = u; lacks = omega (arith, z, f); some = omega (arith, z, f) }
-    go _ (refused r s c p) q = let z : _≡_ {A = ℕ} 0 1 = cc in absurd (omega (arith, z))
+    go _ (refused r s c p b) q = let z : _≡_ {A = ℕ} 0 1 = cc in absurd (omega (arith, z))
     go _ (too-big w l u) q = let z : _≡_ {A = ℕ} 0 1 = cc in absurd (omega (arith, z))
     go _ (message w f) q = absurd (true≢false (sym (ap waiting e) ∙ whole-message h most w f))
 
@@ -121,7 +130,7 @@ body-run h (x ∷ xs) m most e six =
     let l = b .lacks in
     (body h (x ∷ xs) m b, omega (arith, n, u, l))
 
--- ---- the header: its rest, or the byte that is no version
+-- ---- the header: its rest
 pub record HeaderRun (h xs : List ℕ) (k : ℕ) : Type 0 where
   pub within : k ≤ length xs
   pub fits : length h + k ≤ 6
@@ -155,23 +164,6 @@ goes-on h (x ∷ xs) (suc k) within fits few end three =
         length-append h (take j (x ∷ xs)) ∙ ap (λ (n : ℕ). length h + n) (length-take-le j (x ∷ xs) (omega (arith, l, within))) in
         waits-early (h ++ take j (x ∷ xs)) (omega (arith, g, l, fits)) (omega (arith, g, l, fits)) (λ _. three j p (omega (arith, l, within)))
 
--- nothing is held, and the first byte is no version
-wrong-start : (x : ℕ) (xs : List ℕ) → (numAt 1 (x ∷ xs) 0 ≡ 3 → ⊥) → HeaderRun [] (x ∷ xs) 1
-wrong-start x xs v =
-    record {
-      within = omega arith;
-      fits = omega arith;
-      took = took-run 1 [] (x ∷ xs) (omega arith) (omega arith) (λ j p l. absurd (omega (arith, p, l)));
-      behind = λ w p. absurd (true≢false (sym w ∙ wrong-version (x ∷ []) (omega arith) (omega arith) v));
-    }
-
--- the first byte of what is then held is the first one held, or the first that came
-first-held : (b : ℕ) (h xs : List ℕ) (j : ℕ) → numAt 1 (b ∷ h) 0 ≡ 3 → numAt 1 ((b ∷ h) ++ take j xs) 0 ≡ 3
-first-held b h xs j e = number-more (b ∷ h) (take j xs) 1 0 (omega arith) ∙ e
-
-first-came : (x : ℕ) (xs : List ℕ) (j : ℕ) → 0 < j → numAt 1 (take j (x ∷ xs)) 0 ≡ numAt 1 (x ∷ xs) 0
-first-came x xs j p = num-part 1 0 j (x ∷ xs) 0 (omega (arith, p))
-
 -- up to the sixth byte, or all that there are
 sixth : (n k : ℕ) → n < 6 → (shorter (6 - n) k ≤ k) × ((n + shorter (6 - n) k ≤ 6) × (shorter (6 - n) k < k → n + shorter (6 - n) k ≡ 6))
 sixth n k few = go (ltb (6 - n) k) refl
@@ -180,28 +172,7 @@ sixth n k few = go (ltb (6 - n) k) refl
     go true e = let z = ltb-true (6 - n) k e in (omega (arith, z), (omega (arith, few), λ _. omega (arith, few)))
     go false e = let z = ltb-false (6 - n) k e in (omega arith, (omega (arith, z, few), λ l. absurd (omega (arith, l))))
 
-header-rest : (h xs : List ℕ) → length h < 6 → ((j : ℕ) → 0 < j → j ≤ length xs → numAt 1 (h ++ take j xs) 0 ≡ 3) → HeaderRun h xs (shorter (6 - length h) (length xs))
-header-rest h xs few three = let s = sixth (length h) (length xs) few in goes-on h xs (shorter (6 - length h) (length xs)) (s .0) (s .1 .0) few (s .1 .1) three
-
-none-comes : (h : List ℕ) (a : ℕ) → length h < 6 → HeaderRun h [] (shorter a 0)
-none-comes h a few =
-    let z : 0 ≡ shorter a 0 = (let n = shorter-le a 0 .1 in omega (arith, n)) in
-    subst (HeaderRun h []) z (goes-on h [] 0 (omega arith) (omega (arith, few)) few (λ l. absurd (omega (arith, l))) (λ j p l. absurd (omega (arith, p, l))))
-
-pub header-run : (h xs : List ℕ) → length h < 6 → (0 < length h → numAt 1 h 0 ≡ 3) → HeaderRun h xs (headerRun (length h) xs)
-header-run h [] few three = none-comes h (pick (eqb (length h) 0) (firstRun (numberAt 1 [] 0)) (6 - length h)) few
-header-run (b ∷ h) (x ∷ xs) few three =
-    rw (ne-eqb (length (b ∷ h)) 0 (λ e. absurd (omega (arith, e))))
-    (header-rest (b ∷ h) (x ∷ xs) few (λ j p l. first-held b h (x ∷ xs) j (three (omega arith))))
-header-run [] (x ∷ xs) few three = go (eqb (numAt 1 (x ∷ xs) 0) 3) refl
-  where
-    here : numberAt 1 (x ∷ xs) 0 ≡ numAt 1 (x ∷ xs) 0
-    here = number-is 1 (x ∷ xs) 0 (omega arith)
-
-    go : (c : Bool) → eqb (numAt 1 (x ∷ xs) 0) 3 ≡ c → HeaderRun [] (x ∷ xs) (headerRun 0 (x ∷ xs))
-    go true c = rw (here, c) (header-rest [] (x ∷ xs) few (λ j p l. first-came x xs j p ∙ eqb-true (numAt 1 (x ∷ xs) 0) 3 c))
-    go false c = rw (here, c, one-comes (ltb 1 (suc (length xs))) refl) (wrong-start x xs (eqb-false (numAt 1 (x ∷ xs) 0) 3 c))
-      where
-        one-comes : (d : Bool) → ltb 1 (suc (length xs)) ≡ d → pick d 1 (suc (length xs)) ≡ 1
-        one-comes true e = refl
-        one-comes false e = let z = ltb-false 1 (suc (length xs)) e in omega (arith, z)
+pub header-run : (h xs : List ℕ) → 0 < length h → length h < 6 → numAt 1 h 0 ≡ 3 → HeaderRun h xs (shorter (6 - length h) (length xs))
+header-run h xs one few three =
+    let s = sixth (length h) (length xs) few in
+    goes-on h xs (shorter (6 - length h) (length xs)) (s .0) (s .1 .0) few (s .1 .1) (λ j p l. number-more h (take j xs) 1 0 (omega (arith, one)) ∙ three)

@@ -14,12 +14,14 @@ use Rattle.wire.specs.Bytes.{numAt}
 use Rattle.writing.specs.Write.{putAt}
 use Rattle.writing.proofs.Sets.{put-fits}
 use Rattle.receiver.specs.Receive.{room, longestPiece, judgeOf, waiting, tookOf, settled, taken}
-use Rattle.receiver.specs.Steps.{Held, settledBy, takenAfter, shorter, headerRun}
+use Rattle.receiver.specs.Steps.{Held, settledBy, takenAfter, shorter, firstRun}
 use Rattle.receiver.specs.declared.Outcome.{Outcome}
 use Rattle.receiver.specs.declared.Received.{Received}
 use Rattle.receiver.proofs.Outcome.{the-type}
 use Rattle.receiver.proofs.Judging.{Judged, in-header, in-body, refused, too-big, message, judged}
-use Rattle.receiver.proofs.Runs.{shorter-le, body-run, HeaderRun, header-run}
+use Rattle.receiver.proofs.Runs.{shorter-le, shorter-left, shorter-right, body-run, HeaderRun, header-run}
+use Rattle.receiver.proofs.First.{First, first}
+use Rattle.receiver.proofs.Missing.{fewer-wait}
 
 -- ---- what the code learns where an outcome is none that waits: it has one of the other tags
 pub decided : (o : Outcome) → OneOf (1 ∷ 2 ∷ 3 ∷ []) (tagOf the-type o) → waiting o ≡ false
@@ -86,6 +88,26 @@ module _ (b : List ℕ) (held : ℕ) (size : length b ≡ room) (xs : List ℕ) 
   pub front-then : take (held + k) (paste b held xs k) ≡ take held b ++ take k xs
   front-then = take-paste b held xs k (omega (arith, size, fits)) within
 
+-- ---- at a boundary, the piece's first run
+module _ (b : List ℕ) (size : length b ≡ room) (xs : List ℕ) (short : length xs ≤ longestPiece) where
+  piece-fits : length xs ≤ room
+  piece-fits = omega (arith, short)
+
+  module _ (o : Outcome) (j : o ≡ judgeOf xs) (run : ℕ) (is : run ≡ firstRun o (length xs)) where
+    firsts : First xs run o
+    firsts = subst (λ (k : ℕ). First xs k o) (sym is) (subst (λ (p : Outcome). First xs (firstRun p (length xs)) p) (sym j) (first xs piece-fits))
+
+    pub first-within : run ≤ length xs
+    first-within = firsts .within
+
+    pub first-taken : (r : Received) (b′ : List ℕ) → b′ ≡ putAt b 0 (take run xs) → r ≡ settledBy run run o → (r ≡ taken [] xs) × (b′ ≡ paste b 0 xs (r .took))
+    first-taken r b′ e s =
+        let many = length-take-le run xs first-within in
+        let fits : 0 + run ≤ room = omega (arith, first-within, piece-fits) in
+        let put = was-put b 0 (take run xs) b′ (omega (arith, many, fits, size)) e in
+        let all : r ≡ settled run (take run xs) = s ∙ ap₂ (settledBy run) (sym many) (sym (firsts .judged-so)) in
+        (all ∙ ap (λ (k : ℕ). settled k (take k xs)) (sym (firsts .took)), put .pasted ∙ pasted b 0 size xs run first-within fits ∙ ap (paste b 0 xs) (sym (ap (λ (x : Received). x .took) all)))
+
 -- ---- the body's rest, in one run
 module _ (b : List ℕ) (held missing : ℕ) (lent : Held b held missing) (xs : List ℕ) (behind : 0 < length xs → 6 ≤ held) where
   held-there : length (take held b) ≡ held
@@ -94,45 +116,69 @@ module _ (b : List ℕ) (held missing : ℕ) (lent : Held b held missing) (xs : 
   taking : (tookOf (take held b) xs ≡ shorter missing (length xs)) × (length (take held b) + shorter missing (length xs) ≤ room)
   taking = body-run (take held b) xs missing (omega (arith, held-there, lent .fits)) (lent .waits) (λ p. let six = behind p in omega (arith, six, held-there))
 
-  module _ (run : ℕ) (is : run ≡ shorter missing (length xs)) where
-    pub body-within : run ≤ length xs
-    body-within = let s = shorter-le missing (length xs) .1 in omega (arith, s, is)
+  module _ (run : ℕ) (is : shorter missing (length xs) ≡ run) where
+    within : run ≤ length xs
+    within = let s = shorter-le missing (length xs) .1 in omega (arith, s, is)
 
     pub body-fits : held + run ≤ room
     body-fits = let f = taking .1 in omega (arith, f, held-there, is)
 
-    pub body-taken : (before : ℕ) (o : Outcome) (r : Received) (b′ : List ℕ) → o ≡ judgeOf (take held b ++ take run xs)
-        → b′ ≡ paste b held (take run xs) (length (take run xs)) → r ≡ settledBy (before + run) (held + run) o
+    body-taken : (before : ℕ) (o : Outcome) (r : Received) (b′ : List ℕ) → o ≡ judgeOf (take held b ++ take run xs)
+        → b′ ≡ paste b held xs run → r ≡ settledBy (before + run) (held + run) o
         → (r ≡ takenAfter before (take held b) xs) × (b′ ≡ paste b held xs (r .took - before))
     body-taken before o r b′ j e s =
-        let n : run ≡ tookOf (take held b) xs = is ∙ sym (taking .0) in
-        let all : r ≡ settled (before + run) (take held b ++ take run xs) = s ∙ settled-by b held (lent .size) xs run body-within body-fits (before + run) o j in
-        let took : r .took - before ≡ run = (let t : r .took ≡ before + run = ap (λ (x : Received). x .took) all in omega (arith, t)) in (
-          all ∙ ap (λ (k : ℕ). settled (before + k) (take held b ++ take k xs)) n,
-          e ∙ pasted b held (lent .size) xs run body-within body-fits ∙ ap (paste b held xs) (sym took),
-        )
+        let n : run ≡ tookOf (take held b) xs = sym is ∙ sym (taking .0) in
+        let all : r ≡ settled (before + run) (take held b ++ take run xs) = s ∙ settled-by b held (lent .size) xs run within body-fits (before + run) o j in
+        let took : r .took - before ≡ run = (let t : r .took ≡ before + run = ap (λ (x : Received). x .took) all in omega (arith, t)) in
+        (all ∙ ap (λ (k : ℕ). settled (before + k) (take held b ++ take k xs)) n, e ∙ ap (paste b held xs) (sym took))
+
+  -- there are fewer bytes than the message lacks: all are taken, and it waits for the rest of them
+  module _ (few : length xs < missing) where
+    pub few-fit : held + length xs ≤ room
+    few-fit = body-fits (length xs) (shorter-right missing (length xs) few)
+
+    pub still-waits : (before : ℕ) (r : Received) (b′ : List ℕ) → b′ ≡ putAt b held xs → r ≡ settledBy (before + length xs) (held + length xs) (Outcome.Waiting (missing - length xs))
+        → (r ≡ takenAfter before (take held b) xs) × (b′ ≡ paste b held xs (r .took - before))
+    still-waits before r b′ e s =
+        let put = was-put b held xs b′ (omega (arith, few-fit, lent .size)) e in
+        let many : length (take held b ++ xs) ≤ room = (let n = length-append (take held b) xs in omega (arith, n, held-there, few-fit)) in
+        let waits = fewer-wait (take held b) xs missing many (lent .waits) few in
+        body-taken (length xs) (shorter-right missing (length xs) few) before _ r b′ (sym (ap (λ (z : List ℕ). judgeOf (take held b ++ z)) (take-length xs) ∙ waits)) (put .pasted) s
+
+  -- there are as many, or more: what it lacks is taken
+  module _ (enough : missing ≤ length xs) where
+    pub all-fit : held + missing ≤ room
+    all-fit = body-fits missing (shorter-left missing (length xs) enough)
+
+    pub body-ends : (before : ℕ) (o : Outcome) (r : Received) (b′ : List ℕ) → o ≡ judgeOf (take held b ++ take missing xs)
+        → b′ ≡ paste b held (take missing xs) (length (take missing xs)) → r ≡ settledBy (before + missing) (held + missing) o
+        → (r ≡ takenAfter before (take held b) xs) × (b′ ≡ paste b held xs (r .took - before))
+    body-ends before o r b′ j e s =
+        body-taken missing (shorter-left missing (length xs) enough) before o r b′ j (e ∙ pasted b held (lent .size) xs missing enough all-fit) s
 
 -- ---- the header's rest, and what then waits
-module _ (b : List ℕ) (held missing : ℕ) (lent : Held b held missing) (xs : List ℕ) (few : held < 6) (short : length xs ≤ longestPiece) where
+module _ (b : List ℕ) (held missing : ℕ) (lent : Held b held missing) (xs : List ℕ) (one : 0 < held) (few : held < 6) (short : length xs ≤ longestPiece) where
   abbrev h : List ℕ
   h = take held b
 
   head-there : length h ≡ held
   head-there = length-take-le held b (omega (arith, lent .size, lent .fits))
 
-  three : 0 < length h → numAt 1 h 0 ≡ 3
+  three : numAt 1 h 0 ≡ 3
   three = go (judgeOf h) (judged h (omega (arith, head-there, lent .fits))) (lent .waits)
     where
-      go : (o : Outcome) → Judged h o → o ≡ Outcome.Waiting missing → 0 < length h → numAt 1 h 0 ≡ 3
-      go _ (in-header m l v u) q = v
-      go _ (in-body w l m f) q = λ _. w .three
-      go _ (refused r s c p) q = let z : _≡_ {A = ℕ} 0 1 = cc in absurd (omega (arith, z))
-      go _ (too-big w l m) q = λ _. w .three
-      go _ (message w f) q = λ _. w .three
+      go : (o : Outcome) → Judged h o → o ≡ Outcome.Waiting missing → numAt 1 h 0 ≡ 3
+      go _ (in-header m l v u) q = v (omega (arith, head-there, one))
+      go _ (in-body w l m f) q = w .three
+      go _ (refused r s c p b) q = let z : _≡_ {A = ℕ} 0 1 = cc in absurd (omega (arith, z))
+      go _ (too-big w l m) q = w .three
+      go _ (message w f) q = w .three
 
-  module _ (run : ℕ) (is : run ≡ headerRun held xs) where
+  module _ (run : ℕ) (is : run ≡ shorter (6 - held) (length xs)) where
     goes : HeaderRun h xs run
-    goes = subst (HeaderRun h xs) (ap (λ (n : ℕ). headerRun n xs) head-there ∙ sym is) (header-run h xs (omega (arith, head-there, few)) three)
+    goes =
+        subst (HeaderRun h xs) (ap (λ (n : ℕ). shorter (6 - n) (length xs)) head-there ∙ sym is)
+        (header-run h xs (omega (arith, head-there, one)) (omega (arith, head-there, few)) three)
 
     pub head-within : run ≤ length xs
     head-within = goes .within

@@ -2,12 +2,11 @@
 use common_header::BmpCommonHeader;
 use common_header::COMMON_HEADER;
 use common_header::CommonFields;
-use common_header::VERSION;
 use splitter::SplitAnswer;
 use wire::Refusal;
 use wire::View;
 ghost use mathlib.Core.Path.{_≡_};
-ghost use mathlib.Core.List.{_++_};
+ghost use mathlib.Core.List.{[], _++_};
 ghost use Prim.Native.Nat.{_+_, _-_, _≤_, _<_};
 ghost use lib.ListN.{length, take};
 ghost use lib.Seq.{paste};
@@ -15,7 +14,7 @@ ghost use Rattle.wire.specs.Refusal.{refusal};
 ghost use Rattle.splitter.specs.declared.SplitAnswer.{SplitAnswer};
 ghost use Rattle.receiver.specs.declared.Outcome.{Outcome};
 ghost use Rattle.receiver.specs.Receive.{judgeOf, holding, fresh, stateOf, taken, refused, receiveOf, bufferOf};
-ghost use Rattle.receiver.specs.Steps.{Held, byRoom, settledBy, takenAfter, shorter, firstRun, headerRun};
+ghost use Rattle.receiver.specs.Steps.{Held, Enters, byRoom, settledBy, takenAfter, shorter, firstRun, refusedRun};
 
 // The size of the buffer that is lent, and so the longest message that is handed out.
 pub const BUFFER: usize = 65_536;
@@ -45,6 +44,12 @@ pub struct Received {
     pub state: Receiver,
 }
 
+// What the bytes lack that are held, or why the call is refused at once.
+enum Entered {
+    Waiting(usize),
+    Refused(Refusal),
+}
+
 // The state in which a session begins, and begins again after a refusal: nothing is held, and nothing stands.
 pub fn reset() -> Receiver
     ensures { λ r. ⌜ r ≡ fresh ⌝ }
@@ -58,24 +63,34 @@ pub fn receive(buffer: &mut [u8], state: Receiver, piece: &[u8]) -> Received
     ensures { λ r. ⌜ r ≡ receiveOf (now (buffer .entry)) state (now (piece .entry)) ⌝ }
     ensures { λ _. ⌜ now (buffer .exit) ≡ bufferOf (now (buffer .entry)) state (now (piece .entry)) ⌝ }
 {
+    match enter(buffer, state, piece) {
+        Entered::Waiting(missing) => take_in(buffer, state.held, missing, piece),
+        Entered::Refused(refusal) => refused(state, refusal),
+    }
+}
+
+// The checks before anything is taken. They stand apart so that their answers and those of a call that takes bytes do not meet in memory.
+fn enter(buffer: &[u8], state: Receiver, piece: &[u8]) -> Entered
+    ensures { λ r. ⌜ Enters (now (buffer .entry)) state (now (piece .entry)) r ⌝ }
+{
     let held = state.held;
     let standing = state.standing;
     if buffer.len() != BUFFER {
-        return refused(state, wire::refusal_at(wire::NO_ROOM, 0));
+        return Entered::Refused(wire::refusal_at(wire::NO_ROOM, 0));
     }
     if LONGEST_PIECE < piece.len() {
-        return refused(state, wire::refusal_at(wire::TOO_LONG, 0));
+        return Entered::Refused(wire::refusal_at(wire::TOO_LONG, 0));
     }
     if standing.number != wire::GOOD {
-        return refused(state, standing);
+        return Entered::Refused(standing);
     }
     if buffer.len() < held {
-        return refused(state, wire::refusal_at(wire::BAD_FIELD, 0));
+        return Entered::Refused(wire::refusal_at(wire::BAD_FIELD, 0));
     }
     let Outcome::Waiting(missing) = judge(&buffer[..held]) else {
-        return refused(state, wire::refusal_at(wire::BAD_FIELD, 0));
+        return Entered::Refused(wire::refusal_at(wire::BAD_FIELD, 0));
     };
-    take_in(buffer, held, missing, piece)
+    Entered::Waiting(missing)
 }
 
 // A call that takes nothing and leaves the state as it was.
@@ -139,27 +154,60 @@ fn state_of(held: usize, outcome: Outcome) -> Receiver
     }
 }
 
-// ---- the bytes of a piece, in runs: the header's rest, and then the body's
+// ---- the bytes of a piece, in runs: at a boundary up to the message's end; else the header's rest, and then the body's
 fn take_in(buffer: &mut [u8], held: usize, missing: usize, piece: &[u8]) -> Received
     requires { ⌜ Held (now buffer) held missing ⌝ }
     requires { ⌜ length (now piece) ≤ 4096 ⌝ }
     ensures { λ r. ⌜ r ≡ taken (take held (now (buffer .entry))) (now (piece .entry)) ⌝ }
     ensures { λ r. ⌜ now (buffer .exit) ≡ paste (now (buffer .entry)) held (now (piece .entry)) (r .took) ⌝ }
 {
+    if held == 0 {
+        return take_first(buffer, piece);
+    }
     if held < COMMON_HEADER {
         return take_header(buffer, held, missing, piece);
     }
     take_body(buffer, held, missing, piece, 0)
 }
 
-// A header that is not whole yet is judged once more, when its sixth byte is there; what then waits goes on with the body.
+// At a boundary the piece is judged where it stands, and what is taken of it is one copy.
+fn take_first(buffer: &mut [u8], piece: &[u8]) -> Received
+    requires { ⌜ (length (now buffer) ≡ 65536) × (length (now piece) ≤ 4096) ⌝ }
+    ensures { λ r. ⌜ r ≡ taken [] (now (piece .entry)) ⌝ }
+    ensures { λ r. ⌜ now (buffer .exit) ≡ paste (now (buffer .entry)) 0 (now (piece .entry)) (r .took) ⌝ }
+{
+    let outcome = judge(piece);
+    let run = first_run(outcome, piece.len());
+    writing::put_bytes(buffer, 0, &piece[..run]);
+    settle(run, run, outcome)
+}
+
+// All that waits, or a message, or what brings a refusal: a first byte that is no version, else the six of a header.
+fn first_run(outcome: Outcome, there: usize) -> usize
+    ensures { λ r. ⌜ r ≡ firstRun outcome there ⌝ }
+{
+    match outcome {
+        Outcome::Waiting(_) => there,
+        Outcome::Message(_, message) => message.length,
+        Outcome::Skipped(_, message) => message.length,
+        Outcome::Refused(refusal) => refused_run(refusal.number),
+    }
+}
+
+fn refused_run(number: u8) -> usize
+    ensures { λ r. ⌜ r ≡ refusedRun number ⌝ }
+{
+    if number == wire::BAD_VERSION { 1 } else { COMMON_HEADER }
+}
+
+// A header that is not whole yet is judged when its sixth byte is there; what then waits goes on with the body.
 fn take_header(buffer: &mut [u8], held: usize, missing: usize, piece: &[u8]) -> Received
     requires { ⌜ Held (now buffer) held missing ⌝ }
-    requires { ⌜ (held < 6) × (length (now piece) ≤ 4096) ⌝ }
+    requires { ⌜ (0 < held) × ((held < 6) × (length (now piece) ≤ 4096)) ⌝ }
     ensures { λ r. ⌜ r ≡ taken (take held (now (buffer .entry))) (now (piece .entry)) ⌝ }
     ensures { λ r. ⌜ now (buffer .exit) ≡ paste (now (buffer .entry)) held (now (piece .entry)) (r .took) ⌝ }
 {
-    let run = header_run(held, piece);
+    let run = shorter(COMMON_HEADER - held, piece.len());
     let outcome = put_run(buffer, held, &piece[..run]);
     let Outcome::Waiting(missing_now) = outcome else {
         return settle(run, held + run, outcome);
@@ -167,16 +215,20 @@ fn take_header(buffer: &mut [u8], held: usize, missing: usize, piece: &[u8]) -> 
     take_body(buffer, held + run, missing_now, &piece[run..], run)
 }
 
-// The rest of a piece, of which so many bytes were taken before: as many as the message lacks.
+// The rest of a piece, of which so many bytes were taken before. What is still not whole waits as before, so only a whole message is judged.
 fn take_body(buffer: &mut [u8], held: usize, missing: usize, rest: &[u8], before: usize) -> Received
     requires { ⌜ Held (now buffer) held missing ⌝ }
     requires { ⌜ (0 < length (now rest) → 6 ≤ held) × (before + length (now rest) ≤ 4096) ⌝ }
     ensures { λ r. ⌜ r ≡ takenAfter before (take held (now (buffer .entry))) (now (rest .entry)) ⌝ }
     ensures { λ r. ⌜ now (buffer .exit) ≡ paste (now (buffer .entry)) held (now (rest .entry)) (r .took - before) ⌝ }
 {
-    let run = shorter(missing, rest.len());
-    let outcome = put_run(buffer, held, &rest[..run]);
-    settle(before + run, held + run, outcome)
+    let there = rest.len();
+    if there < missing {
+        writing::put_bytes(buffer, held, rest);
+        return settle(before + there, held + there, Outcome::Waiting(missing - there));
+    }
+    let outcome = put_run(buffer, held, &rest[..missing]);
+    settle(before + missing, held + missing, outcome)
 }
 
 // One copy, and one judgement of what is then held.
@@ -197,24 +249,6 @@ fn settle(took: usize, held: usize, outcome: Outcome) -> Received
         outcome: outcome,
         state: state_of(held, outcome),
     }
-}
-
-// How many bytes of the piece a header takes that is not whole: up to its sixth.
-fn header_run(held: usize, piece: &[u8]) -> usize
-    requires { ⌜ held < 6 ⌝ }
-    ensures { λ r. ⌜ r ≡ headerRun held (now (piece .entry)) ⌝ }
-{
-    if held == 0 {
-        return shorter(first_run(numbers::u8_at(piece, 0)), piece.len());
-    }
-    shorter(COMMON_HEADER - held, piece.len())
-}
-
-// A first byte that is no version is the last one taken.
-fn first_run(version: u8) -> usize
-    ensures { λ r. ⌜ r ≡ firstRun version ⌝ }
-{
-    if version == VERSION { COMMON_HEADER } else { 1 }
 }
 
 fn shorter(a: usize, b: usize) -> usize

@@ -121,7 +121,7 @@ length-split h most m e = go (splitOf h) (split-case h (omega (arith, most))) e
     go : (a : SplitAnswer) → Case h a → a ≡ splitAs m → lengthOf m ≡ lengthIn h
     go _ (early {r} l v c k) q = no r (omega (arith, c)) q
     go _ (other-version one v) q = no _ (omega arith) q
-    go _ (bad-length w r c p k) q = no r p q
+    go _ (bad-length w r c v p k) q = no r p q
     go _ (part w l u f) q = no _ (omega arith) q
     go _ (whole w f) q =
         sym (length-as m) ∙ ap (λ (x : SplitAnswer). Shown.fieldsIn x .«msg_len») (sym q)

@@ -90,7 +90,7 @@ refused-number h most r e = go (judgeOf h) (Judging.judged h most) e
     go : (o : Outcome) → Judging.Judged h o → o ≡ Outcome.Refused r → 0 < r .number
     go _ (Judging.in-header m l v u) q = apart cc
     go _ (Judging.in-body w l u f) q = apart cc
-    go _ (Judging.refused d s c p) q = let z : d ≡ r = cc in subst (λ (x : Refusal). 0 < x .number) z p
+    go _ (Judging.refused d s c p b) q = let z : d ≡ r = cc in subst (λ (x : Refusal). 0 < x .number) z p
     go _ (Judging.too-big w l u) q = let z : Number.StreamTooBig ≡ r .number = cc in omega (arith, z)
     go _ (Judging.message w f) q = pick-in (λ a. outcomeOf h a ≡ Outcome.Refused r → 0 < r .number) (ltb 6 (fieldsIn h .kind)) (λ x. apart cc) (λ x. apart cc) q
 

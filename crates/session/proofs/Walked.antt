@@ -78,7 +78,7 @@ module _ (h rest : List ℕ) (most : length h ≤ room) (r : Refusal) where
       go : (o : Outcome) → Judging.Judged h o → o ≡ Outcome.Refused r → Ends (h ++ rest) r
       go _ (Judging.in-header m l v u) q = apart cc
       go _ (Judging.in-body w l u f) q = apart cc
-      go _ (Judging.refused d s c p) q =
+      go _ (Judging.refused d s c p b) q =
           let same : d ≡ r = cc in
           let long = length-append h rest in
           record { end = fault d; finds = faults-at (h ++ rest) d (step-refused h rest most d s c) (omega (arith, some-held h j, long)); stands = same }

@@ -36,7 +36,7 @@ pub record Headed (s : List ℕ) : Type 0 where
 pub data Case (s : List ℕ) : SplitAnswer → Type 0 where
   early : {r : Refusal} → length s < 6 → (0 < length s → numAt 1 s 0 ≡ 3) → r .number ≡ Number.Cut → length s + r .missing ≤ 6 → Case s (SplitAnswer.Refused r)
   other-version : 0 < length s → (numAt 1 s 0 ≡ 3 → ⊥) → Case s (SplitAnswer.Refused (refusal Number.BadVersion 0))
-  bad-length : Headed s → (r : Refusal) → (r .number ≡ Number.Cut → ⊥) → 0 < r .number → ((there : ℕ) → judged there (fieldsIn s) ≡ SplitAnswer.Refused r)
+  bad-length : Headed s → (r : Refusal) → (r .number ≡ Number.Cut → ⊥) → (r .number ≡ Number.BadVersion → ⊥) → 0 < r .number → ((there : ℕ) → judged there (fieldsIn s) ≡ SplitAnswer.Refused r)
       → Case s (SplitAnswer.Refused r)
   part : Headed s → 6 ≤ lengthIn s → lengthIn s ≤ Number.limit → length s < lengthIn s → Case s (SplitAnswer.Refused (lacking 6 (lengthIn s - length s)))
   whole : Headed s → Fitting (length s) (lengthIn s) → Case s (handedOut (fieldsIn s) (view 0 (lengthIn s)))
@@ -80,8 +80,8 @@ module _ (s : List ℕ) (short : length s ≤ Number.limit) where
       go : (a : Bool) → ltb n 6 ≡ a → (b : Bool) → ltb Number.limit n ≡ b → (c : Bool) → ltb (length s) n ≡ c
           → Case s (pick a (SplitAnswer.Refused (refusal Number.BadMessageLength 1)) (pick b (SplitAnswer.Refused (refusal Number.TooLong 1))
           (pick c (SplitAnswer.Refused (lacking 6 (n - length s))) (handedOut (fieldsIn s) (view 0 n)))))
-      go true ha b hb c hc = bad-length w (refusal Number.BadMessageLength 1) (λ e. absurd (omega (arith, e))) (omega arith) (λ there. rw ha)
-      go false ha true hb c hc = bad-length w (refusal Number.TooLong 1) (λ e. absurd (omega (arith, e))) (omega arith) (λ there. rw (ha, hb))
+      go true ha b hb c hc = bad-length w (refusal Number.BadMessageLength 1) (λ e. absurd (omega (arith, e))) (λ e. absurd (omega (arith, e))) (omega arith) (λ there. rw ha)
+      go false ha true hb c hc = bad-length w (refusal Number.TooLong 1) (λ e. absurd (omega (arith, e))) (λ e. absurd (omega (arith, e))) (omega arith) (λ there. rw (ha, hb))
       go false ha false hb true hc = part w (ltb-false n 6 ha) (ltb-false Number.limit n hb) (ltb-true (length s) n hc)
       go false ha false hb false hc = whole w (record { least = ltb-false n 6 ha; most = ltb-false Number.limit n hb; all-there = ltb-false (length s) n hc })
 
@@ -143,7 +143,7 @@ module _ (s t : List ℕ) where
       go : (a : SplitAnswer) → Case s a → (refusalOf a .number ≡ Number.Cut → ⊥) → splitOf (s ++ t) ≡ a
       go _ (early l v e m) d = absurd (d e)
       go _ (other-version one v) d = split-version (s ++ t) short (omega (arith, one, longer)) (λ e. v (sym (number-more 1 0 (omega (arith, one))) ∙ e))
-      go _ (bad-length w r c p e) d = split-headed (s ++ t) short (headed-more w) ∙ ap (judged (length (s ++ t))) (fields-more w) ∙ e (length (s ++ t))
+      go _ (bad-length w r c v p e) d = split-headed (s ++ t) short (headed-more w) ∙ ap (judged (length (s ++ t))) (fields-more w) ∙ e (length (s ++ t))
       go _ (part w l m f) d = absurd (d refl)
       go _ (whole w f) d =
           let there : Fitting (length (s ++ t)) (lengthIn s) = record { least = f .least; most = f .most; all-there = omega (arith, f .all-there, longer) } in

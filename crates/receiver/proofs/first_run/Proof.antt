@@ -1,12 +1,44 @@
-use borrow.Author.Tests.{eq-eqb, ne-eqb}
+use borrow.Author.Needs.{needs}
 use Rattle.receiver.proofs.first_run.Statement.{statement}
 use Rattle.receiver.proofs.first_run.Tie as tie
 
+enum-told : tie.Need-enum-told
+enum-told c = search needs
+
+enum-known-outcome : tie.Need-enum-known-outcome
+enum-known-outcome c = search needs
+
+enum-known-outcome-2 : tie.Need-enum-known-outcome-2
+enum-known-outcome-2 c = search needs
+
+enum-known-outcome-3 : tie.Need-enum-known-outcome-3
+enum-known-outcome-3 c = search needs
+
+refused-run-requires : tie.Need-refused-run-requires
+refused-run-requires c κs = search needs
+
 returns : tie.Need-returns
-returns c = rw (eq-eqb _ _ (c .if1 .taken))
+returns c = rw (c .enum-told .given .1)
 
 returns-2 : tie.Need-returns-2
-returns-2 c = rw (ne-eqb _ _ (c .if1 .left))
+returns-2 c = rw (c .before .outcome .given .1)
+
+returns-3 : tie.Need-returns-3
+returns-3 c = rw (c .before .outcome2 .given .1)
+
+returns-4 : tie.Need-returns-4
+returns-4 c = rw (c .before .before .outcome3 .given .1) (c .refused-run .ensures)
 
 pub first-run-spec : {M : Type 1} → statement M
-first-run-spec = tie.close (tie.spec returns returns-2)
+first-run-spec =
+    tie.close
+    (tie.spec
+    enum-told
+    enum-known-outcome
+    enum-known-outcome-2
+    enum-known-outcome-3
+    refused-run-requires
+    returns
+    returns-2
+    returns-3
+    returns-4)

@@ -9,25 +9,28 @@ use Rattle.receiver.proofs.Taking.{decided, head-within, head-fits, hea
 use Rattle.receiver.proofs.take_header.Statement.{statement}
 use Rattle.receiver.proofs.take_header.Tie as tie
 
-header-run-requires : tie.Need-header-run-requires
-header-run-requires c κs = search needs
+sub-shorter : tie.Need-sub-shorter
+sub-shorter c = search needs
 
-within : (c : tie.After-header-run) → c .header-run .result ≤ length (now (c .before .before .before .args .piece))
+shorter-requires : tie.Need-shorter-requires
+shorter-requires c κs = search needs
+
+within : (c : tie.After-shorter) → c .shorter .result ≤ length (now (c .before .before .before .args .piece))
 within c =
     let p = c .before .before .before .pre in
-    head-within _ _ _ (p .0) (now (c .before .before .before .args .piece)) (p .1 .0) (p .1 .1) _ (c .header-run .ensures)
+    head-within _ _ _ (p .0) (now (c .before .before .before .args .piece)) (p .1 .0) (p .1 .1 .0) (p .1 .1 .1) _ (c .shorter .ensures)
 
-up-to-six : (c : tie.After-header-run) → c .before .before .before .args .held + c .header-run .result ≤ 6
+up-to-six : (c : tie.After-shorter) → c .before .before .before .args .held + c .shorter .result ≤ 6
 up-to-six c =
     let p = c .before .before .before .pre in
-    head-fits _ _ _ (p .0) (now (c .before .before .before .args .piece)) (p .1 .0) (p .1 .1) _ (c .header-run .ensures)
+    head-fits _ _ _ (p .0) (now (c .before .before .before .args .piece)) (p .1 .0) (p .1 .1 .0) (p .1 .1 .1) _ (c .shorter .ensures)
 
 slice-aggregate-put-run : tie.Need-slice-aggregate-put-run
 slice-aggregate-put-run c = sym (length-take-le _ _ (within (c .before .before)))
 
 put-run-requires : tie.Need-put-run-requires
 put-run-requires c κs =
-    let many = length-take-le (c .before .before .header-run .result) (now (c .before .before .before .before .before .args .piece)) (within (c .before .before)) in
+    let many = length-take-le (c .before .before .shorter .result) (now (c .before .before .before .before .before .args .piece)) (within (c .before .before)) in
     let fits = up-to-six (c .before .before) in
     (c .before .before .before .before .before .pre .0 .size, omega (arith, many, fits))
 
@@ -47,7 +50,7 @@ returns : tie.Need-returns
 returns c =
     let p = c .before .before .before .before .before .before .before .before .before .before .pre in
     let put = c .before .before .before .before .put-run .ensures in
-    head-ended _ _ _ (p .0) (now (c .before .before .before .before .before .before .before .before .before .before .args .piece)) (p .1 .0) (p .1 .1) _ (c .before .before .before .before .before .before .before .header-run .ensures) _ _ (put .0) (put .1) (decided (c .before .before .before .before .put-run .result) (c .before .match .keys2)) _ (c .settle .ensures)
+    head-ended _ _ _ (p .0) (now (c .before .before .before .before .before .before .before .before .before .before .args .piece)) (p .1 .0) (p .1 .1 .0) (p .1 .1 .1) _ (c .before .before .before .before .before .before .before .shorter .ensures) _ _ (put .0) (put .1) (decided (c .before .before .before .before .put-run .result) (c .before .match .keys2)) _ (c .settle .ensures)
 
 add-take-body : tie.Need-add-take-body
 add-take-body c = let p = up-to-six (c .before .before .before .before .before .before .before .before .before) in search needs
@@ -64,12 +67,12 @@ part-take-body-end c = search needs
 take-body-requires : tie.Need-take-body-requires
 take-body-requires c κs =
     let p = c .before .before .before .before .before .before .before .before .before .before .before .before .before .pre in
-    let run = c .before .before .before .before .before .before .before .before .before .before .header-run .ensures in
+    let run = c .before .before .before .before .before .before .before .before .before .before .shorter .ensures in
     let put = c .before .before .before .before .before .before .before .put-run .ensures in
     let waits = c .before .before .before .outcome .given .1 in
     let xs = now (c .before .before .before .before .before .before .before .before .before .before .before .before .before .args .piece) in (
-      still-held _ _ _ (p .0) xs (p .1 .0) (p .1 .1) _ run _ _ (put .0) (put .1) _ waits,
-      head-behind _ _ _ (p .0) xs (p .1 .0) (p .1 .1) _ run _ _ (put .0) (put .1) _ waits,
+      still-held _ _ _ (p .0) xs (p .1 .0) (p .1 .1 .0) (p .1 .1 .1) _ run _ _ (put .0) (put .1) _ waits,
+      head-behind _ _ _ (p .0) xs (p .1 .0) (p .1 .1 .0) (p .1 .1 .1) _ run _ _ (put .0) (put .1) _ waits,
     )
 
 same-length-2 : tie.Need-same-length-2
@@ -78,17 +81,18 @@ same-length-2 c = search needs
 returns-2 : tie.Need-returns-2
 returns-2 c =
     let p = c .before .before .before .before .before .before .before .before .before .before .before .before .before .before .before .before .pre in
-    let run = c .before .before .before .before .before .before .before .before .before .before .before .before .before .header-run .ensures in
+    let run = c .before .before .before .before .before .before .before .before .before .before .before .before .before .shorter .ensures in
     let put = c .before .before .before .before .before .before .before .before .before .before .put-run .ensures in
     let waits = c .before .before .before .before .before .before .outcome .given .1 in
     let body = c .before .before .take-body .ensures in
-    head-on _ _ _ (p .0) (now (c .before .before .before .before .before .before .before .before .before .before .before .before .before .before .before .before .args .piece)) (p .1 .0) (p .1 .1) _ run _ _ (put .0) (put .1) _ waits _ _ (body .0) (body .1)
+    head-on _ _ _ (p .0) (now (c .before .before .before .before .before .before .before .before .before .before .before .before .before .before .before .before .args .piece)) (p .1 .0) (p .1 .1 .0) (p .1 .1 .1) _ run _ _ (put .0) (put .1) _ waits _ _ (body .0) (body .1)
 
 pub take-header-spec : {M : Type 1} → statement M
 take-header-spec =
     tie.close
     (tie.spec
-    header-run-requires
+    sub-shorter
+    shorter-requires
     slice-aggregate-put-run
     put-run-requires
     enum-known-outcome
