@@ -4,26 +4,25 @@ use mathlib.Core.Bool.{Bool, true, false}
 use mathlib.Core.List.{List, []}
 use Prim.Native.Nat.{ℕ, _+_, _-_, _≤_, _<_}
 use native.Mathlib.Omega.{arith}
-use borrow.Author.Tests.{ltb-true, ltb-false, ne-eqb, lt-ltb, le-ltb}
+use borrow.Author.Tests.{ltb-true, ltb-false}
 use lib.Dec.{ltb}
 use lib.ListN.{length, take, drop, take-append-drop}
 use lib.Seq.{length-take-le, take-length}
 use Rattle.wire.specs.Number as Number
 use Rattle.wire.specs.Bytes.{numAt}
-use Rattle.wire.specs.Refusal.{refusal, lacking}
+use Rattle.wire.specs.Refusal.{refusal}
 use Rattle.wire.specs.View.{view}
 use Rattle.wire.specs.declared.Refusal.{Refusal}
-use Rattle.wire.proofs.Refuses.{pick-in}
 use Rattle.splitter.specs.Shown.{handedOut}
 use Rattle.splitter.specs.Read as Read
 use Rattle.splitter.specs.Read.{splitOf}
 use Rattle.splitter.specs.declared.SplitAnswer.{SplitAnswer}
-use Rattle.splitter.proofs.Laws.{Fitting, fitting-shown}
-use Rattle.splitter.proofs.Cases.{lengthIn, fieldsIn, Headed, split-version, split-headed, number-more}
+use Rattle.splitter.proofs.Laws.{Fitting, fitting-shown, handed-either}
+use Rattle.splitter.proofs.Cases.{lengthIn, fieldsIn, Headed, BadLength, below-6, above-limit, split-version, split-headed, number-more}
 use Rattle.receiver.specs.Receive.{room, streamTooBig, outcomeOf, judgeOf, waiting, tookOf}
-use Rattle.receiver.specs.Steps.{firstRun}
+use Rattle.receiver.specs.Steps.{firstRun, refusedRun}
 use Rattle.receiver.specs.declared.Outcome.{Outcome}
-use Rattle.receiver.proofs.Judging.{by-version, by-header, Judged, in-header, in-body, refused, too-big, message, by-length, judged, waits-early, waits-in-body}
+use Rattle.receiver.proofs.Judging.{by-version, by-header, Judged, in-header, in-body, refused, too-big, message, judged, waits-early, waits-in-body, says-too-big}
 use Rattle.receiver.proofs.Runs.{took-all, took-ended}
 
 pub record First (xs : List ℕ) (k : ℕ) (o : Outcome) : Type 0 where
@@ -93,21 +92,19 @@ module _ (xs : List ℕ) (most : length xs ≤ room) where
       ap (outcomeOf (take 1 xs)) (split-version (take 1 xs) (omega (arith, long)) (omega (arith, long)) (λ z. v (sym (same-number xs most 1 one 1 0 (omega arith)) ∙ z))) in
       record { within = one; took = took-ended 1 [] xs (omega arith) one (λ j p l. absurd (omega (arith, p, l))) (ap waiting e); judged-so = e }
 
-  header-brings : (w : Headed xs) (r : Refusal) → (r .number ≡ Number.Cut → ⊥) → ((there : ℕ) → Read.judged there (fieldsIn xs) ≡ SplitAnswer.Refused r)
-      → judgeOf (take 6 xs) ≡ Outcome.Refused r
+  header-brings : (w : Headed xs) (r : Refusal) → BadLength r → ((there : ℕ) → Read.judged there (fieldsIn xs) ≡ SplitAnswer.Refused r) → First xs (refusedRun (r .number)) (Outcome.Refused r)
   unfolding judgeOf
-  header-brings w r uncut e = ap (outcomeOf (take 6 xs)) (splits xs most 6 (w .six) w (omega arith) ∙ e (length (take 6 xs))) ∙ rw (ne-eqb (r .number) Number.Cut uncut)
+  header-brings w r b e = go r b (ap (outcomeOf (take 6 xs)) (splits xs most 6 (w .six) w (omega arith) ∙ e (length (take 6 xs))))
+    where
+      go : (r : Refusal) → BadLength r → judgeOf (take 6 xs) ≡ outcomeOf (take 6 xs) (SplitAnswer.Refused r) → First xs (refusedRun (r .number)) (Outcome.Refused r)
+      go r below-6 j = sixth-brings w r j
+      go r above-limit j = sixth-brings w r j
 
   size-brings : (w : Headed xs) → room < lengthIn xs → lengthIn xs ≤ Number.limit → judgeOf (take 6 xs) ≡ Outcome.Refused streamTooBig
-  unfolding judgeOf
   size-brings w big limited =
-      let n = lengthIn xs in
-      let p = take 6 xs in
       let long = many xs most 6 (w .six) in
-      let cut : splitOf p ≡ SplitAnswer.Refused (lacking 6 (n - length p)) =
-      splits xs most 6 (w .six) w (omega arith)
-      ∙ rw (le-ltb n 6 (omega (arith, big)), le-ltb Number.limit n limited, lt-ltb (length p) n (omega (arith, long, big))) in
-      ap (outcomeOf p) cut ∙ rw (by-length p (headed xs most 6 (w .six) w (omega arith)), same-length xs most 6 (w .six) w (omega arith), lt-ltb room n big)
+      let same = same-length xs most 6 (w .six) w (omega arith) in
+      says-too-big (take 6 xs) (omega (arith, long)) (headed xs most 6 (w .six) w (omega arith)) (omega (arith, same, big)) (omega (arith, same, limited))
 
   whole-message : (w : Headed xs) → Fitting (length xs) (lengthIn xs) → First xs (lengthIn xs) (outcomeOf xs (handedOut (fieldsIn xs) (view 0 (lengthIn xs))))
   unfolding judgeOf
@@ -119,8 +116,8 @@ module _ (xs : List ℕ) (most : length xs ≤ room) where
       let out : splitOf (take n xs) ≡ handedOut (fieldsIn xs) (view 0 n) =
       splits xs most n there w low ∙ fitting-shown (length (take n xs)) (fieldsIn xs) (record { least = low; most = f .most; all-there = omega (arith, long) }) in
       let e : judgeOf (take n xs) ≡ outcomeOf xs (handedOut (fieldsIn xs) (view 0 n)) =
-      ap (outcomeOf (take n xs)) out ∙ pick-in (λ a. outcomeOf (take n xs) a ≡ outcomeOf xs a) (ltb 6 (fieldsIn xs .kind)) refl refl in
-      let ended : waiting (judgeOf (take n xs)) ≡ false = ap waiting e ∙ pick-in (λ a. waiting (outcomeOf xs a) ≡ false) (ltb 6 (fieldsIn xs .kind)) refl refl in
+      ap (outcomeOf (take n xs)) out ∙ handed-either (λ a. outcomeOf (take n xs) a ≡ outcomeOf xs a) (fieldsIn xs) (view 0 n) refl refl in
+      let ended : waiting (judgeOf (take n xs)) ≡ false = ap waiting e ∙ handed-either (λ a. waiting (outcomeOf xs a) ≡ false) (fieldsIn xs) (view 0 n) refl refl in
       record {
         within = there;
         took = took-ended n [] xs (omega (arith, low)) there (λ j p l. in-message w low (omega (arith, there, most)) j p (omega (arith, l, there)) l) ended;
@@ -131,11 +128,11 @@ module _ (xs : List ℕ) (most : length xs ≤ room) where
   first-of _ (in-header m l v u) e = all-of-it _ e (λ j p q. early xs most j q p (omega (arith, q, l)) (v (omega (arith, p, q))))
   first-of _ (in-body w l u f) e = all-of-it _ e (λ j p q. in-message w l u j p q (omega (arith, q, f)))
   first-of _ (refused r s c p (by-version one v q)) e = subst (λ (x : Refusal). First xs (firstRun (Outcome.Refused x) (length xs)) (Outcome.Refused x)) (sym q) (first-brings one v)
-  first-of _ (refused r s c p (by-header w v k)) e = rw (ne-eqb (r .number) Number.BadVersion v) (sixth-brings w r (header-brings w r c k))
+  first-of _ (refused r s c p (by-header w b k)) e = header-brings w r b k
   first-of _ (too-big w l u) e = sixth-brings w streamTooBig (size-brings w l u)
   first-of _ (message w f) e =
       subst (λ (k : ℕ). First xs k (outcomeOf xs (handedOut (fieldsIn xs) (view 0 (lengthIn xs)))))
-      (sym (pick-in (λ a. firstRun (outcomeOf xs a) (length xs) ≡ lengthIn xs) (ltb 6 (fieldsIn xs .kind)) refl refl)) (whole-message w f)
+      (sym (handed-either (λ a. firstRun (outcomeOf xs a) (length xs) ≡ lengthIn xs) (fieldsIn xs) (view 0 (lengthIn xs)) refl refl)) (whole-message w f)
 
   pub first : First xs (firstRun (judgeOf xs) (length xs)) (judgeOf xs)
   first = first-of (judgeOf xs) (judged xs most) refl

@@ -4,7 +4,7 @@ use mathlib.Core.Bool.{Bool, true, false}
 use mathlib.Core.List.{List}
 use Prim.Native.Nat.{ℕ, _+_, _-_, _≤_, _<_}
 use native.Mathlib.Omega.{arith}
-use borrow.Author.Tests.{ltb-true, ltb-false, eqb-true, eqb-false, eq-eqb, ne-eqb, lt-ltb, le-ltb}
+use borrow.Author.Tests.{ltb-true, ltb-false, eqb-true, eqb-false, eq-eqb, lt-ltb, le-ltb}
 use lib.Dec.{ltb, eqb}
 use lib.ListN.{length}
 use Rattle.wire.specs.Number as Number
@@ -13,15 +13,14 @@ use Rattle.wire.specs.Refusal.{refusal, lacking}
 use Rattle.wire.specs.View.{view}
 use Rattle.wire.specs.declared.Refusal.{Refusal}
 use Rattle.wire.specs.declared.View.{View}
-use Rattle.wire.proofs.Refuses.{pick-in}
 use Rattle.common_header.specs.declared.BmpCommonHeader.{BmpCommonHeader}
 use Rattle.common_header.specs.declared.CommonFields.{CommonFields}
 use Rattle.splitter.specs.Shown.{handedOut}
 use Rattle.splitter.specs.Read as Read
 use Rattle.splitter.specs.Read.{splitOf}
 use Rattle.splitter.specs.declared.SplitAnswer.{SplitAnswer}
-use Rattle.splitter.proofs.Laws.{Fitting, fitting-shown}
-use Rattle.splitter.proofs.Cases.{lengthIn, fieldsIn, Headed, Case, early, other-version, bad-length, part, whole, split-version, split-headed, split-case}
+use Rattle.splitter.proofs.Laws.{Fitting, fitting-shown, handed-either}
+use Rattle.splitter.proofs.Cases.{lengthIn, fieldsIn, Headed, BadLength, below-6, above-limit, Case, early, other-version, bad-length, part, whole, split-version, split-headed, split-case}
 use Rattle.receiver.specs.Receive.{room, tooBig, streamTooBig, outcomeOf, judgeOf, waiting}
 use Rattle.receiver.specs.Steps.{byRoom}
 use Rattle.receiver.specs.declared.Outcome.{Outcome}
@@ -48,7 +47,7 @@ said h (SplitAnswer.Refused r) = go (eqb (r .number) Number.Cut) refl (tooBig h)
 -- what brings a refusal of the splitter: the first byte, or the length of a whole header
 pub data Brought (h : List ℕ) (r : Refusal) : Type 0 where
   by-version : 0 < length h → (numAt 1 h 0 ≡ 3 → ⊥) → r ≡ refusal Number.BadVersion 0 → Brought h r
-  by-header : Headed h → (r .number ≡ Number.BadVersion → ⊥) → ((there : ℕ) → Read.judged there (fieldsIn h) ≡ SplitAnswer.Refused r) → Brought h r
+  by-header : Headed h → BadLength r → ((there : ℕ) → Read.judged there (fieldsIn h) ≡ SplitAnswer.Refused r) → Brought h r
 
 -- ---- what the bytes are: the start of a header; the start of a message; refused by the splitter; too big; a message
 pub data Judged (h : List ℕ) : Outcome → Type 0 where
@@ -80,9 +79,8 @@ module _ (h : List ℕ) (most : length h ≤ room) where
       go : (a : SplitAnswer) → Case h a → splitOf h ≡ a → Judged h (outcomeOf h a)
       go _ (early {r} l v e m) q = subst (Judged h) (sym (cut-early r e l)) (in-header (r .missing) l v m)
       go _ (other-version one v) q = refused (refusal Number.BadVersion 0) q (λ e. absurd (omega (arith, e))) (omega arith) (by-version one v refl)
-      go _ (bad-length w r c v p e) q =
-          let o : outcomeOf h (SplitAnswer.Refused r) ≡ Outcome.Refused r = rw (ne-eqb (r .number) Number.Cut c) in
-          subst (Judged h) (sym o) (refused r q c p (by-header w v e))
+      go _ (bad-length w r below-6 e) q = refused r q (λ z. absurd (omega (arith, z))) (omega arith) (by-header w below-6 e)
+      go _ (bad-length w r above-limit e) q = refused r q (λ z. absurd (omega (arith, z))) (omega arith) (by-header w above-limit e)
       go _ (part w l m f) q = by-room (ltb room (lengthIn h)) refl
         where
           by-room : (b : Bool) → ltb room (lengthIn h) ≡ b → Judged h (outcomeOf h (SplitAnswer.Refused (lacking 6 (lengthIn h - length h))))
@@ -102,7 +100,7 @@ module _ (h : List ℕ) (most : length h ≤ room) where
       go : (a : SplitAnswer) → Case h a → waiting (outcomeOf h a) ≡ true
       go _ (early {r} l v e m) = ap waiting (cut-early r e l)
       go _ (other-version one v) = absurd (v (three one))
-      go _ (bad-length w r c v p e) = let six = w .six in absurd (omega (arith, six, few))
+      go _ (bad-length w r b e) = let six = w .six in absurd (omega (arith, six, few))
       go _ (part w l m f) = let six = w .six in absurd (omega (arith, six, few))
       go _ (whole w f) = let six = w .six in absurd (omega (arith, six, few))
 
@@ -117,11 +115,18 @@ module _ (h : List ℕ) (most : length h ≤ room) where
       split-headed h short w ∙ rw (le-ltb (lengthIn h) 6 l, le-ltb Number.limit (lengthIn h) (omega (arith, m)), lt-ltb (length h) (lengthIn h) f) in
       ap (λ (a : SplitAnswer). waiting (outcomeOf h a)) cut ∙ rw (by-length h w, le-ltb room (lengthIn h) m)
 
+  pub says-too-big : Headed h → room < lengthIn h → lengthIn h ≤ Number.limit → judgeOf h ≡ Outcome.Refused streamTooBig
+  unfolding judgeOf
+  says-too-big w big limited =
+      let cut : splitOf h ≡ SplitAnswer.Refused (lacking 6 (lengthIn h - length h)) =
+      split-headed h short w ∙ rw (le-ltb (lengthIn h) 6 (omega (arith, big)), le-ltb Number.limit (lengthIn h) limited, lt-ltb (length h) (lengthIn h) (omega (arith, big, most))) in
+      ap (outcomeOf h) cut ∙ rw (by-length h w, lt-ltb room (lengthIn h) big)
+
   pub whole-message : Headed h → Fitting (length h) (lengthIn h) → waiting (judgeOf h) ≡ false
   unfolding judgeOf
   whole-message w f =
       ap (λ (a : SplitAnswer). waiting (outcomeOf h a)) (split-headed h short w ∙ fitting-shown (length h) (fieldsIn h) f)
-      ∙ pick-in (λ a. waiting (outcomeOf h a) ≡ false) (ltb 6 (fieldsIn h .kind)) refl refl
+      ∙ handed-either (λ a. waiting (outcomeOf h a) ≡ false) (fieldsIn h) (view 0 (lengthIn h)) refl refl
 
   -- ---- as the code finds it: more is missing than there is room for exactly where the header says too much
   abbrev RoomSays : SplitAnswer → Type 0
@@ -133,7 +138,8 @@ module _ (h : List ℕ) (most : length h ≤ room) where
   room-says _ (early {r} l v e m) =
       rw (eq-eqb (r .number) Number.Cut e, not-yet h l, le-ltb (room - length h) (r .missing) (omega (arith, m, l)))
   room-says _ (other-version one v) = refl
-  room-says _ (bad-length w r c v p e) = rw (ne-eqb (r .number) Number.Cut c)
+  room-says _ (bad-length w r below-6 e) = refl
+  room-says _ (bad-length w r above-limit e) = refl
   room-says _ (part w l m f) = go (ltb room (lengthIn h)) refl
     where
       n : ℕ
@@ -142,7 +148,7 @@ module _ (h : List ℕ) (most : length h ≤ room) where
       go : (b : Bool) → ltb room n ≡ b → RoomSays (SplitAnswer.Refused (lacking 6 (n - length h)))
       go true b = let z = ltb-true room n b in rw (by-length h w ∙ b, lt-ltb (room - length h) (n - length h) (omega (arith, z, most)))
       go false b = let z = ltb-false room n b in rw (by-length h w ∙ b, le-ltb (room - length h) (n - length h) (omega (arith, z)))
-  room-says _ (whole w f) = pick-in RoomSays (ltb 6 (fieldsIn h .kind)) tt tt
+  room-says _ (whole w f) = handed-either RoomSays (fieldsIn h) (view 0 (lengthIn h)) tt tt
 
   pub by-room : (r : Refusal) → splitOf h ≡ SplitAnswer.Refused r → byRoom r (room - length h) ≡ judgeOf h
   unfolding judgeOf

@@ -1,17 +1,25 @@
 -- What a caller of the receiver relies on, call by call; over a whole session: the crate `session`. Assumes nothing.
-use mathlib.Core.Path.{_≡_, refl, sym}
-use mathlib.Core.Bool.{false}
-use mathlib.Core.List.{List, _++_}
+use mathlib.Core.Path.{_≡_, refl, sym, ap, ap₂, _∙_}
+use mathlib.Core.Bool.{true, false, not}
+use mathlib.Core.List.{List, [], _++_, append-nil}
+use mathlib.Core.Logic.{_↔_}
 use Prim.Native.Nat.{ℕ, _-_, _≤_, _<_}
+use native.Mathlib.Omega.{arith}
+use lib.Dec.{ltb, eqb}
 use lib.ListN.{length, take}
+use lib.Seq.{length-take-le}
 use Rattle.wire.specs.Number as Number
+use Rattle.wire.specs.Bytes.{numAt}
 use Rattle.wire.specs.Refusal.{refusal}
 use Rattle.wire.specs.declared.Refusal.{Refusal}
 use Rattle.wire.proofs.Determined.{determined}
-use Rattle.receiver.specs.Receive.{room, longestPiece, fresh, judgeOf, waiting, refused, receiveOf, bufferOf}
+use Rattle.wire.proofs.Refuses.{pick-in}
+use Rattle.receiver.specs.Receive.{room, longestPiece, streamTooBig, judgeOf, waiting, tookOf, holding, fresh, settledBy, settled, taken, unfinished, refused, receiveOf, bufferOf}
 use Rattle.receiver.specs.declared.Outcome.{Outcome}
 use Rattle.receiver.specs.declared.Receiver.{Receiver}
 use Rattle.receiver.specs.declared.Received.{Received}
+use Rattle.receiver.proofs.Runs as Runs
+use Rattle.receiver.proofs.Sizes as Sizes
 use Rattle.receiver.proofs.Calls as Calls
 use Rattle.receiver.proofs.Missing as Missing
 
@@ -40,6 +48,36 @@ module _ (b : List ℕ) (st : Receiver) (xs : List ℕ) where
       -- Then held bytes that are not the start of an unfinished message are BadField: there are not so many, or they do not wait for more.
       pub bad-held : st .standing .number ≡ Number.Good → (st .held ≤ length b → waiting (judgeOf (take (st .held) b)) ≡ false) → Leaves (refusal Number.BadField 0)
       bad-held free n = leaves _ (Calls.bad-held b st xs size short free n)
+
+      -- Else the bytes decide, and only then: they are taken as long as those since the last boundary wait.
+      pub goes-on : st .standing .number ≡ Number.Good → st .held ≤ length b → waiting (judgeOf (take (st .held) b)) ≡ true
+          → receiveOf b st xs ≡ taken (take (st .held) b) xs
+      goes-on free inside w = Calls.goes-on b st xs size short free inside w
+
+  -- No more is taken than there is.
+  pub took-within : receiveOf b st xs .took ≤ length xs
+  unfolding receiveOf
+  took-within =
+      pick-in P (not (eqb (length b) room)) (omega arith)
+      (pick-in P (ltb longestPiece (length xs)) (omega arith)
+      (pick-in P (not (eqb (st .standing .number) Number.Good)) (omega arith)
+      (pick-in P (not (unfinished b (st .held))) (omega arith) (Runs.took-within (take (st .held) b) xs))))
+    where
+      P : Received → Type 0
+      P a = a .took ≤ length xs
+
+-- A piece of no bytes, where it is not refused, takes nothing, brings nothing and leaves the state: what waits goes on waiting.
+pub no-bytes : (b : List ℕ) (st : Receiver) (m : ℕ) → length b ≡ room → st .standing .number ≡ Number.Good → st .held ≤ length b → judgeOf (take (st .held) b) ≡ Outcome.Waiting m
+    → receiveOf b st [] ≡ record { took = 0; outcome = Outcome.Waiting m; state = holding (st .held) }
+unfolding tookOf
+no-bytes b st m size free inside w =
+    let all : take (st .held) b ++ [] ≡ take (st .held) b = append-nil (take (st .held) b) in
+    Calls.goes-on b st [] size (omega arith) free inside (ap waiting w) ∙ ap (settled 0) all ∙ ap₂ (settledBy 0) (length-take-le (st .held) b inside) w
+
+-- ---- StreamTooBig is brought by a header whose length field is from 65,537 to 1,048,576, and by nothing else.
+pub too-big-exactly : (h : List ℕ) → length h ≤ room
+    → (judgeOf h ≡ Outcome.Refused streamTooBig) ↔ ((6 ≤ length h) × (numAt 1 h 0 ≡ 3) × (room < numAt 4 h 1) × (numAt 4 h 1 ≤ Number.limit))
+too-big-exactly h most = (Sizes.says h most, λ x. Sizes.brings h most (x .0) (x .1) (x .2) (x .3))
 
 -- ---- What Waiting says: so many bytes are missing at least. With fewer the message waits for the rest of them.
 pub missing-some : (h : List ℕ) (m : ℕ) → judgeOf h ≡ Outcome.Waiting m → 0 < m

@@ -17,8 +17,21 @@ use Rattle.receiver.specs.Steps.{shorter}
 use Rattle.receiver.specs.declared.Outcome.{Outcome}
 use Rattle.receiver.proofs.Judging.{Judged, in-header, in-body, refused, too-big, message, judged, waits-early, waits-in-body, whole-message}
 
+-- ---- what is held, and the first bytes of a piece behind it
+pub grown : (h xs : List ℕ) (j : ℕ) → j ≤ length xs → length (h ++ take j xs) ≡ length h + j
+grown h xs j l = length-append h (take j xs) ∙ ap (λ (k : ℕ). length h + k) (length-take-le j xs l)
+
+pub took-within : (h xs : List ℕ) → tookOf h xs ≤ length xs
+unfolding tookOf
+took-within h [] = omega arith
+took-within h (x ∷ xs) = go (waiting (judgeOf (h ++ (x ∷ [])))) (took-within (h ++ (x ∷ [])) xs)
+  where
+    go : (b : Bool) → tookOf (h ++ (x ∷ [])) xs ≤ length xs → suc (pick b (tookOf (h ++ (x ∷ [])) xs) 0) ≤ length (x ∷ xs)
+    go true l = omega (arith, l)
+    go false l = omega arith
+
 -- ---- a run of k bytes, of which none but the last can end the taking
-pub took-run : (k : ℕ) (h xs : List ℕ) → 0 < k → k ≤ length xs → ((j : ℕ) → 0 < j → j < k → waiting (judgeOf (h ++ take j xs)) ≡ true)
+took-run : (k : ℕ) (h xs : List ℕ) → 0 < k → k ≤ length xs → ((j : ℕ) → 0 < j → j < k → waiting (judgeOf (h ++ take j xs)) ≡ true)
     → tookOf h xs ≡ k + pick (waiting (judgeOf (h ++ take k xs))) (tookOf (h ++ take k xs) (drop k xs)) 0
 unfolding tookOf
 took-run zero h xs p l q = absurd (omega (arith, p))
@@ -81,15 +94,12 @@ in-body-of h m most e six = go (judgeOf h) (judged h most) e
     go _ (message w f) q = absurd (true≢false (sym (ap waiting e) ∙ whole-message h most w f))
 
 module _ (h xs : List ℕ) (m : ℕ) (in-it : InBody h m) where
-  grown : (j : ℕ) → j ≤ length xs → length (h ++ take j xs) ≡ length h + j
-  grown j l = length-append h (take j xs) ∙ ap (λ (k : ℕ). length h + k) (length-take-le j xs l)
-
   same : (j : ℕ) → lengthIn (h ++ take j xs) ≡ lengthIn h
   same j = let six = in-it .headed .six in number-more h (take j xs) 4 1 (omega (arith, six))
 
   inside : (j : ℕ) → j ≤ length xs → j < m → waiting (judgeOf (h ++ take j xs)) ≡ true
   inside j l f =
-      let g = grown j l in
+      let g = grown h xs j l in
       let s = same j in
       let n = in-it .lacks in
       let u = in-it .high in
@@ -97,7 +107,7 @@ module _ (h xs : List ℕ) (m : ℕ) (in-it : InBody h m) where
 
   ends : m ≤ length xs → waiting (judgeOf (h ++ take m xs)) ≡ false
   ends l =
-      let g = grown m l in
+      let g = grown h xs m l in
       let s = same m in
       let n = in-it .lacks in
       let u = in-it .high in
@@ -160,8 +170,7 @@ goes-on h (x ∷ xs) (suc k) within fits few end three =
   where
     early : (j : ℕ) → 0 < j → j < suc k → waiting (judgeOf (h ++ take j (x ∷ xs))) ≡ true
     early j p l =
-        let g : length (h ++ take j (x ∷ xs)) ≡ length h + j =
-        length-append h (take j (x ∷ xs)) ∙ ap (λ (n : ℕ). length h + n) (length-take-le j (x ∷ xs) (omega (arith, l, within))) in
+        let g = grown h (x ∷ xs) j (omega (arith, l, within)) in
         waits-early (h ++ take j (x ∷ xs)) (omega (arith, g, l, fits)) (omega (arith, g, l, fits)) (λ _. three j p (omega (arith, l, within)))
 
 -- up to the sixth byte, or all that there are

@@ -13,13 +13,13 @@ use lib.Seq.{paste, take-paste, drop-paste, length-paste, length-take-le, take-a
 use Rattle.wire.specs.Bytes.{numAt}
 use Rattle.writing.specs.Write.{putAt}
 use Rattle.writing.proofs.Sets.{put-fits}
-use Rattle.receiver.specs.Receive.{room, longestPiece, judgeOf, waiting, tookOf, settled, taken}
-use Rattle.receiver.specs.Steps.{Held, settledBy, takenAfter, shorter, firstRun}
+use Rattle.receiver.specs.Receive.{room, longestPiece, judgeOf, waiting, tookOf, settledBy, settled, taken}
+use Rattle.receiver.specs.Steps.{Held, takenAfter, shorter, firstRun}
 use Rattle.receiver.specs.declared.Outcome.{Outcome}
 use Rattle.receiver.specs.declared.Received.{Received}
 use Rattle.receiver.proofs.Outcome.{the-type}
 use Rattle.receiver.proofs.Judging.{Judged, in-header, in-body, refused, too-big, message, judged}
-use Rattle.receiver.proofs.Runs.{shorter-le, shorter-left, shorter-right, body-run, HeaderRun, header-run}
+use Rattle.receiver.proofs.Runs.{grown, shorter-le, shorter-left, shorter-right, body-run, HeaderRun, header-run}
 use Rattle.receiver.proofs.First.{First, first}
 use Rattle.receiver.proofs.Missing.{fewer-wait}
 
@@ -55,7 +55,7 @@ was-put b at run b′ h e =
     }
 
 -- two pastes, one behind the other, are one
-pub paste-then : (b : List ℕ) (at : ℕ) (xs : List ℕ) (k n : ℕ) → at + k ≤ length b → k ≤ length xs
+paste-then : (b : List ℕ) (at : ℕ) (xs : List ℕ) (k n : ℕ) → at + k ≤ length b → k ≤ length xs
     → paste (paste b at xs k) (at + k) (drop k xs) n ≡ paste b at xs (k + n)
 paste-then b at xs k n fits within =
     let front : take (at + k) (paste b at xs k) ≡ take at b ++ take k xs = take-paste b at xs k (omega (arith, fits)) within in
@@ -66,18 +66,15 @@ paste-then b at xs k n fits within =
     rw (front, back, take-add k n xs, append-assoc (take at b) (take k xs) (take n (drop k xs)))
 
 module _ (b : List ℕ) (held : ℕ) (size : length b ≡ room) (xs : List ℕ) (k : ℕ) (within : k ≤ length xs) (fits : held + k ≤ room) where
-  pub held-many : length (take held b) ≡ held
-  held-many = length-take-le held b (omega (arith, size, fits))
-
   pub then-many : length (take held b ++ take k xs) ≡ held + k
-  then-many = length-append (take held b) (take k xs) ∙ ap₂ (λ (m n : ℕ). m + n) held-many (length-take-le k xs within)
+  then-many = grown (take held b) xs k within ∙ ap (λ (n : ℕ). n + k) (length-take-le held b (omega (arith, size, fits)))
 
   -- what is judged is settled
-  pub settled-by : (n : ℕ) (o : Outcome) → o ≡ judgeOf (take held b ++ take k xs) → settledBy n (held + k) o ≡ settled n (take held b ++ take k xs)
+  settled-by : (n : ℕ) (o : Outcome) → o ≡ judgeOf (take held b ++ take k xs) → settledBy n (held + k) o ≡ settled n (take held b ++ take k xs)
   settled-by n o e = ap₂ (settledBy n) (sym then-many) e
 
   -- the first k bytes of the piece, put behind those held
-  pub pasted : paste b held (take k xs) (length (take k xs)) ≡ paste b held xs k
+  pasted : paste b held (take k xs) (length (take k xs)) ≡ paste b held xs k
   pasted =
       let many : length (take k xs) ≡ k = length-take-le k xs within in
       rw many (ap (λ (z : List ℕ). take held b ++ z ++ drop (held + k) b) (take-take k k xs (omega arith)))

@@ -30,14 +30,18 @@ tooBig h = pick (ltb (length h) 6) false (ltb room (numAt 4 h 1))
 abbrev pub streamTooBig : Refusal
 streamTooBig = refusal Number.StreamTooBig 1
 
--- what they are, as the splitter says; what is Cut is the start of a message, unless that would be too big
+-- a refusal of the splitter, by whether the message would be too big: what is Cut is the start of one, unless it would
+abbrev pub refusedAs : Bool → Refusal → Outcome
+refusedAs big r =
+    pick (eqb (r .number) Number.Cut)
+    (pick big (Outcome.Refused streamTooBig) (Outcome.Waiting (r .missing)))
+    (Outcome.Refused r)
+
+-- what they are, as the splitter says
 abbrev pub outcomeOf : List ℕ → SplitAnswer → Outcome
 outcomeOf h (SplitAnswer.Message header v) = Outcome.Message header v
 outcomeOf h (SplitAnswer.Skipped fields v) = Outcome.Skipped fields v
-outcomeOf h (SplitAnswer.Refused r) =
-    pick (eqb (r .number) Number.Cut)
-    (pick (tooBig h) (Outcome.Refused streamTooBig) (Outcome.Waiting (r .missing)))
-    (Outcome.Refused r)
+outcomeOf h (SplitAnswer.Refused r) = refusedAs (tooBig h) r
 
 unfoldable pub judgeOf : List ℕ → Outcome
 judgeOf h = outcomeOf h (splitOf h)
@@ -69,9 +73,12 @@ stateOf n (Outcome.Message header v) = fresh
 stateOf n (Outcome.Skipped fields v) = fresh
 stateOf n (Outcome.Refused r) = record { held = n; standing = r }
 
--- so many bytes of the piece were taken, and now there are h since the last boundary
+-- so many bytes of the piece were taken, now there are so many since the last boundary, and they are this
+abbrev pub settledBy : ℕ → ℕ → Outcome → Received
+settledBy took n o = record { took = took; outcome = o; state = stateOf n o }
+
 abbrev pub settled : ℕ → List ℕ → Received
-settled took h = record { took = took; outcome = judgeOf h; state = stateOf (length h) (judgeOf h) }
+settled took h = settledBy took (length h) (judgeOf h)
 
 -- the bytes h are held, and xs is the piece
 abbrev pub taken : List ℕ → List ℕ → Received

@@ -7,7 +7,7 @@ use lib.ListN.{length, take}
 use Rattle.wire.specs.Number as Number
 use Rattle.wire.specs.Bytes.{pick}
 use Rattle.wire.specs.declared.Refusal.{Refusal}
-use Rattle.receiver.specs.Receive.{room, longestPiece, streamTooBig, judgeOf, tookOf, stateOf, settled, taken, refused, receiveOf}
+use Rattle.receiver.specs.Receive.{room, longestPiece, refusedAs, judgeOf, tookOf, settled, taken, refused, receiveOf}
 use Rattle.receiver.specs.declared.Entered.{Entered}
 use Rattle.receiver.specs.declared.Outcome.{Outcome}
 use Rattle.receiver.specs.declared.Receiver.{Receiver}
@@ -26,13 +26,7 @@ Enters b st xs (Entered.Refused r) = receiveOf b st xs ≡ refused st r
 
 -- a refusal of the splitter, where there is room for so many bytes more
 abbrev pub byRoom : Refusal → ℕ → Outcome
-byRoom r left =
-    pick (eqb (r .number) Number.Cut)
-    (pick (ltb left (r .missing)) (Outcome.Refused streamTooBig) (Outcome.Waiting (r .missing)))
-    (Outcome.Refused r)
-
-abbrev pub settledBy : ℕ → ℕ → Outcome → Received
-settledBy took held o = record { took = took; outcome = o; state = stateOf held o }
+byRoom r left = refusedAs (ltb left (r .missing)) r
 
 -- the rest of a piece, of which some bytes were taken before
 abbrev pub takenAfter : ℕ → List ℕ → List ℕ → Received

@@ -13,8 +13,8 @@ ghost use lib.Seq.{paste};
 ghost use Rattle.wire.specs.Refusal.{refusal};
 ghost use Rattle.splitter.specs.declared.SplitAnswer.{SplitAnswer};
 ghost use Rattle.receiver.specs.declared.Outcome.{Outcome};
-ghost use Rattle.receiver.specs.Receive.{judgeOf, holding, fresh, stateOf, taken, refused, receiveOf, bufferOf};
-ghost use Rattle.receiver.specs.Steps.{Held, Enters, byRoom, settledBy, takenAfter, shorter, firstRun, refusedRun};
+ghost use Rattle.receiver.specs.Receive.{room, longestPiece, judgeOf, holding, fresh, stateOf, settledBy, taken, refused, receiveOf, bufferOf};
+ghost use Rattle.receiver.specs.Steps.{Held, Enters, byRoom, takenAfter, shorter, firstRun, refusedRun};
 
 // The size of the buffer that is lent, and so the longest message that is handed out.
 pub const BUFFER: usize = 65_536;
@@ -107,7 +107,7 @@ fn refused(state: Receiver, refusal: Refusal) -> Received
 // ---- the bytes since the last boundary
 // The splitter says what they are.
 fn judge(h: &[u8]) -> Outcome
-    requires { ⌜ length (now h) ≤ 65536 ⌝ }
+    requires { ⌜ length (now h) ≤ room ⌝ }
     ensures { λ r. ⌜ r ≡ judgeOf (now (h .entry)) ⌝ }
 {
     match splitter::split_message(h) {
@@ -157,7 +157,7 @@ fn state_of(held: usize, outcome: Outcome) -> Receiver
 // ---- the bytes of a piece, in runs: at a boundary up to the message's end; else the header's rest, and then the body's
 fn take_in(buffer: &mut [u8], held: usize, missing: usize, piece: &[u8]) -> Received
     requires { ⌜ Held (now buffer) held missing ⌝ }
-    requires { ⌜ length (now piece) ≤ 4096 ⌝ }
+    requires { ⌜ length (now piece) ≤ longestPiece ⌝ }
     ensures { λ r. ⌜ r ≡ taken (take held (now (buffer .entry))) (now (piece .entry)) ⌝ }
     ensures { λ r. ⌜ now (buffer .exit) ≡ paste (now (buffer .entry)) held (now (piece .entry)) (r .took) ⌝ }
 {
@@ -172,7 +172,7 @@ fn take_in(buffer: &mut [u8], held: usize, missing: usize, piece: &[u8]) -> Rece
 
 // At a boundary the piece is judged where it stands, and what is taken of it is one copy.
 fn take_first(buffer: &mut [u8], piece: &[u8]) -> Received
-    requires { ⌜ (length (now buffer) ≡ 65536) × (length (now piece) ≤ 4096) ⌝ }
+    requires { ⌜ (length (now buffer) ≡ room) × (length (now piece) ≤ longestPiece) ⌝ }
     ensures { λ r. ⌜ r ≡ taken [] (now (piece .entry)) ⌝ }
     ensures { λ r. ⌜ now (buffer .exit) ≡ paste (now (buffer .entry)) 0 (now (piece .entry)) (r .took) ⌝ }
 {
@@ -197,13 +197,17 @@ fn first_run(outcome: Outcome, there: usize) -> usize
 fn refused_run(number: u8) -> usize
     ensures { λ r. ⌜ r ≡ refusedRun number ⌝ }
 {
-    if number == wire::BAD_VERSION { 1 } else { COMMON_HEADER }
+    if number == wire::BAD_VERSION {
+        1
+    } else {
+        COMMON_HEADER
+    }
 }
 
 // A header that is not whole yet is judged when its sixth byte is there; what then waits goes on with the body.
 fn take_header(buffer: &mut [u8], held: usize, missing: usize, piece: &[u8]) -> Received
     requires { ⌜ Held (now buffer) held missing ⌝ }
-    requires { ⌜ (0 < held) × ((held < 6) × (length (now piece) ≤ 4096)) ⌝ }
+    requires { ⌜ (0 < held) × ((held < 6) × (length (now piece) ≤ longestPiece)) ⌝ }
     ensures { λ r. ⌜ r ≡ taken (take held (now (buffer .entry))) (now (piece .entry)) ⌝ }
     ensures { λ r. ⌜ now (buffer .exit) ≡ paste (now (buffer .entry)) held (now (piece .entry)) (r .took) ⌝ }
 {
@@ -218,14 +222,18 @@ fn take_header(buffer: &mut [u8], held: usize, missing: usize, piece: &[u8]) -> 
 // The rest of a piece, of which so many bytes were taken before. What is still not whole waits as before, so only a whole message is judged.
 fn take_body(buffer: &mut [u8], held: usize, missing: usize, rest: &[u8], before: usize) -> Received
     requires { ⌜ Held (now buffer) held missing ⌝ }
-    requires { ⌜ (0 < length (now rest) → 6 ≤ held) × (before + length (now rest) ≤ 4096) ⌝ }
+    requires { ⌜ (0 < length (now rest) → 6 ≤ held) × (before + length (now rest) ≤ longestPiece) ⌝ }
     ensures { λ r. ⌜ r ≡ takenAfter before (take held (now (buffer .entry))) (now (rest .entry)) ⌝ }
     ensures { λ r. ⌜ now (buffer .exit) ≡ paste (now (buffer .entry)) held (now (rest .entry)) (r .took - before) ⌝ }
 {
     let there = rest.len();
     if there < missing {
         writing::put_bytes(buffer, held, rest);
-        return settle(before + there, held + there, Outcome::Waiting(missing - there));
+        return settle(
+            before + there,
+            held + there,
+            Outcome::Waiting(missing - there),
+        );
     }
     let outcome = put_run(buffer, held, &rest[..missing]);
     settle(before + missing, held + missing, outcome)
@@ -233,7 +241,7 @@ fn take_body(buffer: &mut [u8], held: usize, missing: usize, rest: &[u8], before
 
 // One copy, and one judgement of what is then held.
 fn put_run(buffer: &mut [u8], held: usize, run: &[u8]) -> Outcome
-    requires { ⌜ (length (now buffer) ≡ 65536) × (held + length (now run) ≤ 65536) ⌝ }
+    requires { ⌜ (length (now buffer) ≡ room) × (held + length (now run) ≤ room) ⌝ }
     ensures { λ r. ⌜ r ≡ judgeOf (take held (now (buffer .entry)) ++ now (run .entry)) ⌝ }
     ensures { λ _. ⌜ now (buffer .exit) ≡ paste (now (buffer .entry)) held (now (run .entry)) (length (now (run .entry))) ⌝ }
 {

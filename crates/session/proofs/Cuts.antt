@@ -14,11 +14,11 @@ use Rattle.splitter.specs.Stream.{Message, bytesOf, joined}
 use Rattle.receiver.specs.Receive.{longestPiece, judgeOf, waiting, tookOf}
 use Rattle.receiver.specs.declared.Outcome.{Outcome}
 use Rattle.receiver.specs.declared.Received.{Received}
-use Rattle.receiver.proofs.Calls.{goes-on}
-use Rattle.session.specs.Session.{Session, call, took, heldBytes, Pieces, Puts, all-put, used-up, put-again, stops, Follows}
+use Rattle.receiver.proofs.Calls.{too-long, stands, goes-on}
+use Rattle.session.specs.Session.{Session, call, took, heldBytes, Pieces, Puts, all-put, used-up, put-again, passes-over, Follows}
 use Rattle.session.proofs.Taken.{took-some}
-use Rattle.session.proofs.Since.{joined-more, Now, waits, refuses, Since, refused-number, call-since}
-use Rattle.session.proofs.Walked.{held-there, follows}
+use Rattle.session.proofs.Since.{joined-more, Now, waits, refuses, Since, leaves, call-since}
+use Rattle.session.proofs.Walked.{follows}
 
 -- ---- where the pieces of a stream lead: a part of it was taken, and all of it unless a refusal stands
 pub record Leads (c : Session) (s : List ℕ) : Type 0 where
@@ -27,6 +27,23 @@ pub record Leads (c : Session) (s : List ℕ) : Type 0 where
   pub all : taken ++ rest ≡ s
   pub since : Since c taken
   pub left : c .state .standing .number ≡ Number.Good → rest ≡ []
+
+-- where a refusal stands, no call changes anything
+call-leaves : (c : Session) (s : List ℕ) → Since c s → (c .state .standing .number ≡ Number.Good → ⊥) → (p : List ℕ) → call c p ≡ c
+call-leaves c s x n p = go (ltb longestPiece (length p)) refl
+  where
+    go : (b : Bool) → ltb longestPiece (length p) ≡ b → call c p ≡ c
+    go true b = leaves c p _ (too-long (c .buffer) (c .state) p (x .size) (ltb-true longestPiece (length p) b)) .0
+    go false b = leaves c p _ (stands (c .buffer) (c .state) p (x .size) (ltb-false longestPiece (length p) b) n) .0
+
+stands-still : {c d : Session} {ps : List (List ℕ)} (s : List ℕ) → Since c s → (c .state .standing .number ≡ Number.Good → ⊥) → Puts c ps d → d ≡ c
+stands-still s x n all-put = refl
+stands-still s x n (used-up k) = stands-still s x n k
+stands-still s x n (put-again {c} {d} {p} {ps} k) =
+    let same = call-leaves c s x n p in
+    let y = call-since c s x p in
+    stands-still (s ++ take (took c p) p) y (subst (λ (e : Session). e .state .standing .number ≡ Number.Good → ⊥) (sym same) n) k ∙ same
+stands-still s x n (passes-over m k) = stands-still s x n k
 
 pub puts-lead : {c d : Session} {ps : List (List ℕ)} (s : List ℕ) → Since c s → Puts c ps d → Leads d (s ++ flatten ps)
 unfolding flatten
@@ -38,7 +55,8 @@ puts-lead s x (put-again {c} {d} {p} {ps} k) =
     append-assoc s (take n p) (drop n p ++ flatten ps)
     ∙ ap (λ (z : List ℕ). s ++ z) (sym (append-assoc (take n p) (drop n p) (flatten ps)) ∙ ap (λ (z : List ℕ). z ++ flatten ps) (take-append-drop n p)) in
     subst (Leads d) e (puts-lead (s ++ take n p) (call-since c s x p) k)
-puts-lead s x (stops {c} {ps} n) = record { taken = s; rest = flatten ps; all = refl; since = x; left = λ z. absurd (n z) }
+puts-lead s x (passes-over {c} {d} {p} {ps} n k) =
+    subst (λ (e : Session). Leads e (s ++ flatten (p ∷ ps))) (sym (stands-still s x n k)) (record { taken = s; rest = flatten (p ∷ ps); all = refl; since = x; left = λ z. absurd (n z) })
 
 pub leads-follows : (c : Session) (s : List ℕ) → Leads c s → Follows c s
 leads-follows c s x = subst (Follows c) (x .all) (follows c (x .taken) (x .since) (x .rest) (x .left))
@@ -49,8 +67,8 @@ pub took-is : (c : Session) (s p : List ℕ) → Since c s → length p ≤ long
 took-is c s p x short free w =
     ap (λ (a : Received). a .took) (goes-on (c .buffer) (c .state) p (x .size) short free (omega (arith, x .size, x .fits)) w)
 
--- the pieces ps can be put, and then it is so
-abbrev pub Ended : Session → List (List ℕ) → Type 0
+-- some session to which the pieces lead
+abbrev Ended : Session → List (List ℕ) → Type 0
 Ended c ps = (d : Session) × Puts c ps d
 
 once-called : (c : Session) (p : List ℕ) (ps : List (List ℕ)) → Ended (call c p) (drop (took c p) p ∷ ps) → Ended c (p ∷ ps)
@@ -61,15 +79,15 @@ abbrev PieceEnds : ℕ → Type 0
 PieceEnds f = (c : Session) (s : List ℕ) → Since c s → (p : List ℕ) → length p ≤ f → length p ≤ longestPiece → (ps : List (List ℕ))
     → ((d : Session) (t : List ℕ) → Since d t → Ended d ps) → Ended c (p ∷ ps)
 
+none-left : (c : Session) (s : List ℕ) → Since c s → (ps : List (List ℕ)) → ((d : Session) (t : List ℕ) → Since d t → Ended d ps) → Ended c ([] ∷ ps)
+none-left c s x ps k = let e = k c s x in (e .0, used-up (e .1))
+
 one-call : (f : ℕ) → PieceEnds f → PieceEnds (suc f)
-one-call f i c s x [] l short ps k = let e = k c s x in (e .0, used-up (e .1))
+one-call f i c s x [] l short ps k = none-left c s x ps k
 one-call f i c s x (b ∷ p) l short ps k = go (x .now)
   where
     go : Now (heldBytes c) (c .state .standing) → Ended c ((b ∷ p) ∷ ps)
-    go (refuses j) =
-        let many = held-there c s x [] (λ z. refl) in
-        let q = refused-number (heldBytes c) (omega (arith, many, x .fits)) (c .state .standing) j in
-        (c, stops {c = c} (λ z. absurd (omega (arith, z, q))))
+    go (refuses j q) = let e = k c s x in (e .0, passes-over {c = c} (λ z. absurd (omega (arith, z, q))) (e .1))
     go (waits z w) =
         let n = took c (b ∷ p) in
         let is = took-is c s (b ∷ p) x short (ap (λ (r : Refusal). r .number) z) w in
@@ -79,7 +97,7 @@ one-call f i c s x (b ∷ p) l short ps k = go (x .now)
         (i (call c (b ∷ p)) (s ++ take n (b ∷ p)) (call-since c s x (b ∷ p)) (drop n (b ∷ p)) (omega (arith, fewer, is, some, l)) (omega (arith, fewer, short)) ps k)
 
 no-call : PieceEnds zero
-no-call c s x [] l short ps k = let e = k c s x in (e .0, used-up (e .1))
+no-call c s x [] l short ps k = none-left c s x ps k
 no-call c s x (b ∷ p) l short ps k = absurd (omega (arith, l))
 
 piece-ends : (f : ℕ) → PieceEnds f
@@ -125,7 +143,7 @@ module _ (c d : Session) (s : List ℕ) (x : Leads c s) (y : Leads d s) where
   pub same-messages : c .messages ≡ d .messages
   same-messages = f .messages-are ∙ sym (g .messages-are)
 
-  pub same-standing : c .state .standing ≡ d .state .standing
+  same-standing : c .state .standing ≡ d .state .standing
   same-standing = f .standing-is ∙ sym (g .standing-is)
 
   -- the bytes held and those not taken are the same in both: all that is behind the messages
@@ -153,11 +171,11 @@ module _ (c d : Session) (s : List ℕ) (x : Leads c s) (y : Leads d s) where
     where
       go : Now (heldBytes c) (c .state .standing) → Now (heldBytes d) (d .state .standing) → heldBytes c ≡ heldBytes d
       go (waits z w) n = both-wait (ap (λ (r : Refusal). r .number) z)
-      go (refuses j) (waits z w) = both-wait (ap (λ (r : Refusal). r .number) (same-standing ∙ z))
-      go (refuses j) (refuses k) = both-refuse j k
+      go (refuses j p) (waits z w) = both-wait (ap (λ (r : Refusal). r .number) (same-standing ∙ z))
+      go (refuses j p) (refuses k q) = both-refuse j k
 
   pub same-state : c .state ≡ d .state
   same-state =
       let many : c .state .held ≡ d .state .held =
-      sym (held-there c (x .taken) (x .since) (x .rest) (x .left)) ∙ ap length same-held ∙ held-there d (y .taken) (y .since) (y .rest) (y .left) in
+      sym (x .since .many) ∙ ap length same-held ∙ y .since .many in
       λ i. record { held = many i; standing = same-standing i }

@@ -1,57 +1,76 @@
--- Which refusals can stand. Assumes nothing.
-use mathlib.Core.Path.{_≡_, refl, ap, _∙_, subst}
+-- Which refusals stand, and where StreamTooBig does. Assumes nothing.
+use mathlib.Core.Path.{_≡_, refl, sym, ap, _∙_, subst}
 use mathlib.Core.Bool.{Bool, true, false}
-use mathlib.Core.List.{List, [], _∷_}
-use mathlib.Core.Logic.{inl, inr}
-use Prim.Native.Nat.{ℕ}
+use mathlib.Core.List.{List, []}
+use Prim.Native.Nat.{ℕ, _≤_, _<_}
 use native.Mathlib.Omega.{arith}
-use borrow.Author.Tests.{eqb-false}
 use lib.Dec.{eqb}
 use lib.ListN.{length, take}
+use lib.Seq.{take-length}
 use Rattle.wire.specs.Number as Number
 use Rattle.wire.specs.Bytes.{pick}
-use Rattle.wire.specs.Refusal.{noRefusal}
-use Rattle.wire.specs.Refuses.{OneOf}
+use Rattle.wire.specs.Refusal.{refusal, noRefusal}
+use Rattle.wire.specs.View.{view}
 use Rattle.wire.specs.Walk.{stop, bad, End, tail, fault}
 use Rattle.wire.specs.declared.Refusal.{Refusal}
+use Rattle.wire.proofs.Refuses.{numbers-below}
 use Rattle.wire.proofs.Walk.{BadIn, FaultsIn, faults-in, walk-fault}
 use Rattle.splitter.specs.Shown.{refusalOf}
-use Rattle.splitter.specs.Read.{splitOf}
+use Rattle.splitter.specs.Read.{splitOf, reader}
 use Rattle.splitter.specs.Stream.{Message, asStep}
 use Rattle.splitter.specs.declared.SplitAnswer.{SplitAnswer}
+use Rattle.splitter.proofs.Laws.{handed-either}
+use Rattle.splitter.proofs.Cases.{lengthIn, fieldsIn, below-6, above-limit}
 use Rattle.splitter.proofs.Promises as Splitter
-use Rattle.receiver.specs.Receive.{room, tooBig, streamTooBig}
-use Rattle.session.specs.Session.{orWaits, kit, split, standingAt}
+use Rattle.receiver.specs.Receive.{room, tooBig, streamTooBig, outcomeOf, judgeOf, waiting, tookOf}
+use Rattle.receiver.specs.Steps.{refusedRun, firstRun}
+use Rattle.receiver.specs.declared.Outcome.{Outcome}
+use Rattle.receiver.proofs.Judging.{Judged, in-header, in-body, refused, too-big, message, by-version, by-header, judged}
+use Rattle.receiver.proofs.First.{first}
+use Rattle.receiver.proofs.Runs.{took-ended}
+use Rattle.session.proofs.Walked.{some-held}
+use Rattle.session.specs.Session.{orWaits, kit, split, standingAt, Brings, wrong-version, length-below-6, length-above-limit, length-above-buffer}
 
--- the splitter's but Cut; 0 is the number of none
-abbrev pub faultNumbers : List ℕ
-faultNumbers = Number.Good ∷ Number.TooLong ∷ Number.BadVersion ∷ Number.BadMessageLength ∷ []
+-- ---- the first bytes that bring a refusal: one of them, or the six of a header
+module _ (h : List ℕ) (most : length h ≤ room) (r : Refusal) (j : judgeOf h ≡ Outcome.Refused r) (before : (i : ℕ) → i < length h → waiting (judgeOf (take i h)) ≡ true) where
+  many : length h ≡ refusedRun (r .number)
+  many =
+      let all : tookOf [] h ≡ length h =
+      took-ended (length h) [] h (some-held h r j) (omega arith) (λ i p l. before i l) (ap (λ (z : List ℕ). waiting (judgeOf z)) (take-length h) ∙ ap waiting j) in
+      sym all ∙ first h most .took ∙ ap (λ (o : Outcome). firstRun o (length h)) j
 
-but-cut : (n : ℕ) → OneOf (Number.Good ∷ Number.TooLong ∷ Number.Cut ∷ Number.BadVersion ∷ Number.BadMessageLength ∷ []) n → (n ≡ Number.Cut → ⊥) → OneOf faultNumbers n
-but-cut n (inl e) uncut = inl e
-but-cut n (inr (inl e)) uncut = inr (inl e)
-but-cut n (inr (inr (inl e))) uncut = absurd (uncut e)
-but-cut n (inr (inr (inr o))) uncut = inr (inr o)
+  is : (d : Refusal) → d ≡ r → Brings d (refusedRun (d .number)) → Brings r (length h)
+  is d e b = subst (Brings r) (sym many) (subst (λ (x : Refusal). Brings x (refusedRun (x .number))) e b)
 
-faults : FaultsIn kit (OneOf faultNumbers)
-faults = faults-in kit (OneOf faultNumbers) (λ s. at (take room s) (splitOf (take room s)) refl)
+  pub brings : Brings r (length h)
+  brings = go (judgeOf h) (judged h most) j
+    where
+      apart : _≡_ {A = ℕ} 0 1 → Brings r (length h)
+      apart z = absurd (omega (arith, z))
+
+      go : (o : Outcome) → Judged h o → o ≡ Outcome.Refused r → Brings r (length h)
+      go _ (in-header m l v u) q = apart cc
+      go _ (in-body w l u f) q = apart cc
+      go _ (refused d s c p (by-version one v e)) q = let z : d ≡ r = cc in is (refusal Number.BadVersion 0) (sym e ∙ z) wrong-version
+      go _ (refused d s c p (by-header w below-6 k)) q = let z : refusal Number.BadMessageLength 1 ≡ r = cc in is _ z length-below-6
+      go _ (refused d s c p (by-header w above-limit k)) q = let z : refusal Number.TooLong 1 ≡ r = cc in is _ z length-above-limit
+      go _ (too-big w l u) q = let z : streamTooBig ≡ r = cc in is _ z length-above-buffer
+      go _ (message w f) q = handed-either (λ a. outcomeOf h a ≡ Outcome.Refused r → Brings r (length h)) (fieldsIn h) (view 0 (lengthIn h)) (λ x. apart cc) (λ x. apart cc) q
+
+-- ---- the splitter's numbers are below 11
+faults : FaultsIn kit (λ n. n < 11)
+faults = faults-in kit (λ n. n < 11) (λ s. at (take room s) (splitOf (take room s)) refl)
   where
-    at : (s : List ℕ) (a : SplitAnswer) → splitOf s ≡ a → BadIn (OneOf faultNumbers) (orWaits (asStep s a))
+    at : (s : List ℕ) (a : SplitAnswer) → splitOf s ≡ a → BadIn (λ n. n < 11) (orWaits (asStep s a))
     at s (SplitAnswer.Message header v) e = tt
     at s (SplitAnswer.Skipped fields v) e = tt
-    at s (SplitAnswer.Refused r) e = go (eqb (r .number) Number.Cut) refl
+    at s (SplitAnswer.Refused r) e = go (eqb (r .number) Number.Cut)
       where
-        go : (b : Bool) → eqb (r .number) Number.Cut ≡ b → BadIn {A = Message} (OneOf faultNumbers) (pick b stop (bad r))
-        go true q = tt
-        go false q =
-            but-cut (r .number)
-            (subst (λ (x : SplitAnswer). OneOf (Number.Good ∷ Number.TooLong ∷ Number.Cut ∷ Number.BadVersion ∷ Number.BadMessageLength ∷ []) (refusalOf x .number)) e (Splitter.refuses .no-other s))
-            (eqb-false (r .number) Number.Cut q)
+        go : (b : Bool) → BadIn {A = Message} (λ n. n < 11) (pick b stop (bad r))
+        go true = tt
+        go false = subst (λ (x : SplitAnswer). refusalOf x .number < 11) e (numbers-below reader Splitter.refuses 11 refl s)
 
-pub split-fault : (s : List ℕ) (r : Refusal) → split s .end ≡ fault r → OneOf faultNumbers (r .number)
-split-fault s r e = walk-fault kit (OneOf faultNumbers) faults (length s) s r e
-
--- StreamTooBig is none of them, so it stands where a header that waits says so, and nowhere else
+-- so StreamTooBig stands where a header that waits says so, and nowhere else
 pub too-big-waits : (s : List ℕ) (e : End) → split s .end ≡ e → standingAt e ≡ streamTooBig → (z : List ℕ) × (split s .end ≡ tail z) × (tooBig z ≡ true)
 too-big-waits s (tail z) q h = go (tooBig z) refl h
   where
@@ -61,11 +80,7 @@ too-big-waits s (tail z) q h = go (tooBig z) refl h
         let none : noRefusal ≡ standingAt (tail z) = rw b in
         let n : Number.Good ≡ Number.StreamTooBig = ap (λ (r : Refusal). r .number) (none ∙ h) in
         absurd (omega (arith, n))
-too-big-waits s (fault r) q h = let o = split-fault s r q in absurd (no-such (r .number) o (ap (λ (x : Refusal). x .number) h))
-  where
-    no-such : (n : ℕ) → OneOf faultNumbers n → n ≡ Number.StreamTooBig → ⊥
-    no-such n (inl e) f = absurd (omega (arith, e, f))
-    no-such n (inr (inl e)) f = absurd (omega (arith, e, f))
-    no-such n (inr (inr (inl e))) f = absurd (omega (arith, e, f))
-    no-such n (inr (inr (inr (inl e)))) f = absurd (omega (arith, e, f))
-    no-such n (inr (inr (inr (inr o)))) f = o
+too-big-waits s (fault r) q h =
+    let below = walk-fault kit (λ n. n < 11) faults (length s) s r q in
+    let n = ap (λ (x : Refusal). x .number) h in
+    absurd (omega (arith, below, n))

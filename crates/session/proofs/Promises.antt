@@ -4,17 +4,20 @@ use mathlib.Core.Bool.{true, false}
 use mathlib.Core.List.{List, [], _++_, append-nil, flatten}
 use mathlib.Core.Logic.{_↔_}
 use Prim.Native.Nat.{ℕ, _≤_, _<_}
-use lib.ListN.{length, take}
+use native.Mathlib.Omega.{arith}
+use lib.ListN.{length, take, drop}
 use Rattle.wire.specs.Number as Number
-use Rattle.wire.specs.Walk.{tail}
-use Rattle.splitter.specs.Stream.{joined}
+use Rattle.wire.specs.Walk.{tail, next}
+use Rattle.wire.specs.declared.Refusal.{Refusal}
+use Rattle.splitter.specs.Stream.{lengthOf, joined}
 use Rattle.receiver.specs.Receive.{room, longestPiece, tooBig, streamTooBig, judgeOf, waiting}
-use Rattle.session.specs.Session.{Session, begun, took, heldBytes, split, standingAt, Called, Pieces, Puts, Follows}
+use Rattle.session.specs.Session.{Session, begun, took, heldBytes, step, split, standingAt, Called, Pieces, Puts, Brings, Follows}
 use Rattle.session.proofs.Taken.{took-waits, took-ends}
-use Rattle.session.proofs.Since.{began, called-since, held-waits}
+use Rattle.session.proofs.Since.{Now, waits, refuses, Since, began, called-since, held-waits}
 use Rattle.session.proofs.Walked.{follows}
-use Rattle.session.proofs.Cuts.{Leads, puts-lead, leads-follows, took-is, Ended, pieces-end, same-messages, same-held, same-state}
-use Rattle.session.proofs.Faults.{too-big-waits}
+use Rattle.session.proofs.Fuel.{split-step}
+use Rattle.session.proofs.Cuts.{Leads, puts-lead, leads-follows, took-is, pieces-end, same-messages, same-held, same-state}
+use Rattle.session.proofs.Faults.{brings, too-big-waits}
 
 -- ---- a stream in pieces; the buffer that is lent may hold anything at first
 leads : (b : List ℕ) → length b ≡ room → {ps : List (List ℕ)} {c : Session} → Puts (begun b) ps c → Leads c (flatten ps)
@@ -26,7 +29,7 @@ pub however-cut : (b : List ℕ) → length b ≡ room → {ps : List (List ℕ)
 however-cut b size p = leads-follows _ _ (leads b size p)
 
 -- Pieces of at most 4,096 bytes can always be put so.
-pub pieces-put : (b : List ℕ) → length b ≡ room → (ps : List (List ℕ)) → Pieces ps → Ended (begun b) ps
+pub pieces-put : (b : List ℕ) → length b ≡ room → (ps : List (List ℕ)) → Pieces ps → (c : Session) × Puts (begun b) ps c
 pieces-put b size ps g = pieces-end ps g (begun b) [] (began b size)
 
 -- Where no refusal stands, every byte has been taken: the messages and the bytes held are the stream.
@@ -49,15 +52,28 @@ two-cuts a b m n p q e =
     let y = leads b n q in
     record { messages = same-messages _ _ _ x y; state = same-state _ _ _ x y; held = same-held _ _ _ x y }
 
+-- What `split` finds is its step, and then what it finds behind the message: how far the walk may go has no say.
+pub split-on : (s : List ℕ) → split s ≡ next (step s) s (λ m. split (drop (lengthOf m) s))
+split-on = split-step
+
 -- ---- any calls, with any pieces
 module _ (b : List ℕ) (size : length b ≡ room) {c : Session} {s : List ℕ} (calls : Called b c s) where
   -- What was handed out and what stands are the splitter's on the bytes that were taken.
   pub any-calls : Follows c s
   any-calls = subst (Follows c) (append-nil s) (follows c s (called-since size calls) [] (λ z. refl))
 
-  -- After every call the bytes held are exactly those received since the last boundary: the messages, and then these, are all that was taken.
-  pub held-since : joined (c .messages) (heldBytes c) ≡ s
-  held-since = sym (called-since size calls .parts)
+  -- After every call the bytes held are exactly those received since the last boundary: the messages, and then these, are all that was taken, and the state says how many.
+  pub held-since : (joined (c .messages) (heldBytes c) ≡ s) × (length (heldBytes c) ≡ c .state .held)
+  held-since = let x = called-since size calls in (sym (x .parts), x .many)
+
+  -- What stands is one of four refusals, and the bytes held are those that have brought it: a wrong version with the first, a length with the sixth.
+  pub which-stands : (c .state .standing .number ≡ Number.Good → ⊥) → Brings (c .state .standing) (c .state .held)
+  which-stands n = let x = called-since size calls in go x (x .now)
+    where
+      go : Since c s → Now (heldBytes c) (c .state .standing) → Brings (c .state .standing) (c .state .held)
+      go x (waits z w) = absurd (n (ap (λ (r : Refusal). r .number) z))
+      go x (refuses j p) =
+          subst (Brings (c .state .standing)) (x .many) (brings (heldBytes c) (omega (arith, x .many, x .fits)) (c .state .standing) j (x .before))
 
   -- A call takes bytes as long as those since the last boundary wait for more: the byte that brings a message or a refusal is the last one taken, and bytes are left
   -- only behind such a byte.

@@ -7,43 +7,38 @@ use native.Mathlib.Omega.{arith}
 use borrow.Author.Tests.{ltb-true, ltb-false}
 use lib.Dec.{ltb}
 use lib.ListN.{length, take}
-use lib.Seq.{paste, paste-zero, length-take-le, take-length, take-take}
+use lib.Seq.{paste, paste-zero, take-length, take-take}
 use Rattle.wire.specs.Number as Number
 use Rattle.wire.specs.Refusal.{noRefusal}
+use Rattle.wire.specs.Rfc.{Each}
 use Rattle.wire.specs.View.{view, viewed}
 use Rattle.wire.specs.declared.Refusal.{Refusal}
 use Rattle.wire.specs.declared.View.{View}
-use Rattle.wire.proofs.Refuses.{pick-in}
+use Rattle.wire.proofs.Rfc.{join-parts}
 use Rattle.wire.proofs.Views.{viewed-inside}
 use Rattle.splitter.specs.Shown.{messageOf}
 use Rattle.splitter.specs.Read.{splitOf}
 use Rattle.splitter.specs.Stream.{Message, known, skipped, lengthOf, bytesOf, joined}
 use Rattle.splitter.specs.declared.SplitAnswer.{SplitAnswer}
-use Rattle.splitter.proofs.Cases.{fieldsIn}
+use Rattle.splitter.proofs.Laws.{handed-either}
+use Rattle.splitter.proofs.Cases.{lengthIn, fieldsIn}
 use Rattle.splitter.proofs.Stream.{splitAs, Stands, known-stands, skipped-stands}
 use Rattle.receiver.specs.Receive.{room, longestPiece, outcomeOf, judgeOf, waiting, tookOf, stateOf, taken, refused, receiveOf}
 use Rattle.receiver.specs.declared.Outcome.{Outcome}
 use Rattle.receiver.specs.declared.Received.{Received}
 use Rattle.receiver.proofs.Judging as Judging
 use Rattle.receiver.proofs.Judging.{Said, said-message, said-skipped, said-cut, said-big, said-refused, said}
+use Rattle.receiver.proofs.Runs.{took-within}
 use Rattle.receiver.proofs.Taking.{then-many, size-then, front-then}
 use Rattle.receiver.proofs.Calls.{too-long, stands, goes-on}
 use Rattle.session.specs.Session.{Session, begun, handed, call, took, heldBytes, Called, not-yet, once-more}
 use Rattle.session.proofs.Boundary.{message-whole}
-use Rattle.session.proofs.Taken.{took-within, took-fits, begins-waiting}
+use Rattle.session.proofs.Taken.{took-fits, begins-waiting}
 
 -- ---- messages one after the other
-abbrev pub Each : (Message → Type 0) → List Message → Type 0
-Each P [] = Unit {0}
-Each P (m ∷ l) = P m × Each P l
-
-each-last : (P : Message → Type 0) (l : List Message) (m : Message) → Each P l → P m → Each P (l ++ (m ∷ []))
-each-last P [] m e p = (p, tt)
-each-last P (k ∷ l) m e p = (e .0, each-last P l m (e .1) p)
-
-pub joined-last : (l : List Message) (m : Message) (z : List ℕ) → joined (l ++ (m ∷ [])) z ≡ joined l (bytesOf m ++ z)
-joined-last [] m z = refl
-joined-last (k ∷ l) m z = ap (λ (r : List ℕ). bytesOf k ++ r) (joined-last l m z)
+each-with : (P : Message → Type 0) (l : List Message) (m : Message) → Each P l → P m → Each P (l ++ (m ∷ []))
+each-with P [] m e p = (p, tt)
+each-with P (k ∷ l) m e p = (e .0, each-with P l m (e .1) p)
 
 pub joined-more : (l : List Message) (h t : List ℕ) → joined l h ++ t ≡ joined l (h ++ t)
 joined-more [] h t = refl
@@ -59,11 +54,12 @@ pub record Whole (m : Message) : Type 0 where
 -- ---- the bytes since the last boundary wait, or have brought the refusal that stands
 pub data Now (h : List ℕ) (r : Refusal) : Type 0 where
   waits : r ≡ noRefusal → waiting (judgeOf h) ≡ true → Now h r
-  refuses : judgeOf h ≡ Outcome.Refused r → Now h r
+  refuses : judgeOf h ≡ Outcome.Refused r → 0 < r .number → Now h r
 
 pub record Since (c : Session) (s : List ℕ) : Type 0 where
   pub size : length (c .buffer) ≡ room
   pub fits : c .state .held ≤ room
+  pub many : length (heldBytes c) ≡ c .state .held
   pub parts : s ≡ joined (c .messages) (heldBytes c)
   pub each : Each Whole (c .messages)
   pub before : (j : ℕ) → j < length (heldBytes c) → waiting (judgeOf (take j (heldBytes c))) ≡ true
@@ -74,6 +70,7 @@ began b size =
     record {
       size = size;
       fits = omega arith;
+      many = refl;
       parts = refl;
       each = tt;
       before = λ j l. absurd (omega (arith, l));
@@ -81,7 +78,7 @@ began b size =
     }
 
 -- a refusal has a number
-pub refused-number : (h : List ℕ) → length h ≤ room → (r : Refusal) → judgeOf h ≡ Outcome.Refused r → 0 < r .number
+refused-number : (h : List ℕ) → length h ≤ room → (r : Refusal) → judgeOf h ≡ Outcome.Refused r → 0 < r .number
 refused-number h most r e = go (judgeOf h) (Judging.judged h most) e
   where
     apart : _≡_ {A = ℕ} 0 1 → 0 < r .number
@@ -92,7 +89,7 @@ refused-number h most r e = go (judgeOf h) (Judging.judged h most) e
     go _ (Judging.in-body w l u f) q = apart cc
     go _ (Judging.refused d s c p b) q = let z : d ≡ r = cc in subst (λ (x : Refusal). 0 < x .number) z p
     go _ (Judging.too-big w l u) q = let z : Number.StreamTooBig ≡ r .number = cc in omega (arith, z)
-    go _ (Judging.message w f) q = pick-in (λ a. outcomeOf h a ≡ Outcome.Refused r → 0 < r .number) (ltb 6 (fieldsIn h .kind)) (λ x. apart cc) (λ x. apart cc) q
+    go _ (Judging.message w f) q = handed-either (λ a. outcomeOf h a ≡ Outcome.Refused r → 0 < r .number) (fieldsIn h) (view 0 (lengthIn h)) (λ x. apart cc) (λ x. apart cc) q
 
 -- ---- one call
 abbrev answered : Session → List ℕ → Received → Session
@@ -131,14 +128,11 @@ module _ (c : Session) (s xs : List ℕ) (x : Since c s) (w : waiting (judgeOf (
   abbrev b′ : List ℕ
   b′ = paste (c .buffer) (c .state .held) xs n
 
-  held-many : length h ≡ c .state .held
-  held-many = length-take-le (c .state .held) (c .buffer) (omega (arith, x .size, x .fits))
-
   most : length h ≤ room
-  most = omega (arith, held-many, x .fits)
+  most = omega (arith, x .many, x .fits)
 
   all-fit : c .state .held + n ≤ room
-  all-fit = let f = took-fits h xs most w in omega (arith, f, held-many)
+  all-fit = let f = took-fits h xs most w in omega (arith, f, x .many)
 
   many′ : length h′ ≡ c .state .held + n
   many′ = then-many (c .buffer) (c .state .held) (x .size) xs n (took-within h xs) all-fit
@@ -168,6 +162,7 @@ module _ (c : Session) (s xs : List ℕ) (x : Since c s) (w : waiting (judgeOf (
       record {
         size = size′;
         fits = most′;
+        many = ap length front′;
         parts = parts′ ∙ ap₂ joined (sym e) (sym front′);
         each = subst (Each Whole) (sym e) (x .each);
         before = subst (λ (z : List ℕ). (j : ℕ) → j < length z → waiting (judgeOf (take j z)) ≡ true) (sym front′) before′;
@@ -192,8 +187,9 @@ module _ (c : Session) (s xs : List ℕ) (x : Since c s) (w : waiting (judgeOf (
       record {
         size = size′;
         fits = omega arith;
-        parts = parts′ ∙ ap (joined (c .messages)) (sym bytes ∙ sym (append-nil (bytesOf m))) ∙ sym (joined-last (c .messages) m []) ∙ ap (λ (k : List Message). joined k []) (sym e);
-        each = subst (Each Whole) (sym e) (each-last Whole (c .messages) m (x .each) is);
+        many = refl;
+        parts = parts′ ∙ ap (joined (c .messages)) (sym bytes ∙ sym (append-nil (bytesOf m))) ∙ sym (join-parts (λ (k : Message) (t : List ℕ). bytesOf k ++ t) (c .messages) (m ∷ []) []) ∙ ap (λ (k : List Message). joined k []) (sym e);
+        each = subst (Each Whole) (sym e) (each-with Whole (c .messages) m (x .each) is);
         before = fresh .before;
         now = fresh .now;
       }
@@ -216,8 +212,8 @@ module _ (c : Session) (s xs : List ℕ) (x : Since c s) (w : waiting (judgeOf (
       let same = shown v (fields .«msg_len») (ap messageOf (sym e ∙ z .split-so)) (z .fits .all-there) in
       handed-on (skipped fields (viewed h′ v)) z _ (ap (λ (k : List ℕ). c .messages ++ (skipped fields k ∷ [])) same)
   lands _ _ (said-cut r d b) e j = held-on _ (append-nil (c .messages)) noRefusal (waits refl (ap waiting j))
-  lands _ _ (said-big r d b) e j = held-on _ (append-nil (c .messages)) _ (refuses j)
-  lands _ _ (said-refused r d) e j = held-on _ (append-nil (c .messages)) r (refuses j)
+  lands _ _ (said-big r d b) e j = held-on _ (append-nil (c .messages)) _ (refuses j (omega arith))
+  lands _ _ (said-refused r d) e j = held-on _ (append-nil (c .messages)) r (refuses j (refused-number h′ most′ r j))
 
   takes-since : receiveOf (c .buffer) (c .state) xs ≡ taken h xs → Since (call c xs) (s ++ take (took c xs) xs)
   unfolding judgeOf
@@ -233,9 +229,7 @@ call-since c s x xs = go (ltb longestPiece (length xs)) refl (x .now)
     go false b (waits z w) =
         takes-since c s xs x w
         (goes-on (c .buffer) (c .state) xs (x .size) (ltb-false longestPiece (length xs) b) (ap (λ (r : Refusal). r .number) z) (omega (arith, x .size, x .fits)) w)
-    go false b (refuses j) =
-        let many = length-take-le (c .state .held) (c .buffer) (omega (arith, x .size, x .fits)) in
-        let p = refused-number (heldBytes c) (omega (arith, many, x .fits)) (c .state .standing) j in
+    go false b (refuses j p) =
         leaves-since c s xs x _ (stands (c .buffer) (c .state) xs (x .size) (ltb-false longestPiece (length xs) b) (λ z. absurd (omega (arith, z, p))))
 
 pub called-since : {b : List ℕ} {c : Session} {s : List ℕ} → length b ≡ room → Called b c s → Since c s
@@ -248,7 +242,4 @@ held-waits c s x free = go (x .now)
   where
     go : Now (heldBytes c) (c .state .standing) → waiting (judgeOf (heldBytes c)) ≡ true
     go (waits z w) = w
-    go (refuses j) =
-        let many = length-take-le (c .state .held) (c .buffer) (omega (arith, x .size, x .fits)) in
-        let p = refused-number (heldBytes c) (omega (arith, many, x .fits)) (c .state .standing) j in
-        absurd (omega (arith, free, p))
+    go (refuses j p) = absurd (omega (arith, free, p))

@@ -6,21 +6,12 @@ use Prim.Native.Nat.{ℕ, zero, suc, _+_, _-_, _≤_, _<_}
 use native.Mathlib.Omega.{arith}
 use lib.Dec.{ltb}
 use borrow.Author.Tests.{ltb-true, ltb-false}
-use lib.ListN.{length, take, length-append}
-use lib.Seq.{length-take-le, take-append-le, take-append-add, take-take}
+use lib.ListN.{length, take}
+use lib.Seq.{take-append-le, take-append-add, take-take}
 use Rattle.wire.specs.Bytes.{pick}
 use Rattle.receiver.specs.Receive.{room, judgeOf, waiting, tookOf}
-use Rattle.receiver.proofs.Runs.{in-body-of}
+use Rattle.receiver.proofs.Runs.{grown, took-within, in-body-of}
 use Rattle.session.proofs.Boundary.{waiting-lacks}
-
-pub took-within : (h xs : List ℕ) → tookOf h xs ≤ length xs
-unfolding tookOf
-took-within h [] = omega arith
-took-within h (x ∷ xs) = go (waiting (judgeOf (h ++ (x ∷ [])))) (took-within (h ++ (x ∷ [])) xs)
-  where
-    go : (b : Bool) → tookOf (h ++ (x ∷ [])) xs ≤ length xs → suc (pick b (tookOf (h ++ (x ∷ [])) xs) 0) ≤ length (x ∷ xs)
-    go true l = omega (arith, l)
-    go false l = omega arith
 
 pub took-some : (h xs : List ℕ) → 0 < length xs → 0 < tookOf h xs
 unfolding tookOf
@@ -53,7 +44,7 @@ took-ends h (x ∷ xs) l = go (waiting (judgeOf (h ++ (x ∷ [])))) refl l (took
     go false e l i = e
 
 -- ---- what waits has room for a byte more
-pub waits-short : (h : List ℕ) → length h ≤ room → waiting (judgeOf h) ≡ true → length h < room
+waits-short : (h : List ℕ) → length h ≤ room → waiting (judgeOf h) ≡ true → length h < room
 waits-short h most w = go (ltb (length h) 6) refl
   where
     go : (b : Bool) → ltb (length h) 6 ≡ b → length h < room
@@ -67,14 +58,11 @@ waits-short h most w = go (ltb (length h) 6) refl
         omega (arith, some, sum, high)
 
 module _ (h xs : List ℕ) (most : length h ≤ room) (w : waiting (judgeOf h) ≡ true) where
-  grown : (j : ℕ) → j ≤ length xs → length (h ++ take j xs) ≡ length h + j
-  grown j l = length-append h (take j xs) ∙ ap (λ (n : ℕ). length h + n) (length-take-le j xs l)
-
   fits-so-far : (j : ℕ) → j ≤ tookOf h xs → length h + j ≤ room
   fits-so-far zero l = omega (arith, most)
   fits-so-far (suc j) l =
       let i = fits-so-far j (omega (arith, l)) in
-      let g = grown j (let t = took-within h xs in omega (arith, t, l)) in
+      let g = grown h xs j (let t = took-within h xs in omega (arith, t, l)) in
       let s = waits-short (h ++ take j xs) (omega (arith, g, i)) (took-waits h xs w j (omega (arith, l))) in
       omega (arith, s, g)
 
@@ -94,7 +82,7 @@ module _ (h xs : List ℕ) (most : length h ≤ room) (w : waiting (judgeOf h) �
       go false e =
           let z = ltb-false j (length h) e in
           let i = j - length h in
-          let many = grown n (took-within h xs) in
+          let many = grown h xs n (took-within h xs) in
           let sum : length h + i ≡ j = omega (arith, z) in
           let less : i < n = omega (arith, many, l, z) in
           ap (λ (k : ℕ). waiting (judgeOf (take k (h ++ take n xs)))) (sym sum) ∙ ap (λ (s : List ℕ). waiting (judgeOf s)) (take-append-add h (take n xs) i)

@@ -4,31 +4,31 @@ use mathlib.Core.Bool.{true, true≢false}
 use mathlib.Core.List.{List, [], _∷_, _++_, append-nil}
 use Prim.Native.Nat.{ℕ, zero, suc, _≤_, _<_}
 use native.Mathlib.Omega.{arith}
-use lib.Dec.{ltb}
 use lib.ListN.{length, length-append}
-use lib.Seq.{drop-at, length-take-le}
+use lib.Seq.{drop-at}
 use Rattle.wire.specs.Number as Number
 use Rattle.wire.specs.Refusal.{noRefusal}
+use Rattle.wire.specs.Rfc.{Each}
+use Rattle.wire.specs.View.{view}
 use Rattle.wire.specs.Walk.{stop, bad, End, tail, fault, Walked, walk}
 use Rattle.wire.specs.declared.Refusal.{Refusal}
-use Rattle.wire.proofs.Refuses.{pick-in}
+use Rattle.wire.proofs.Walk.{walk-stop}
 use Rattle.splitter.specs.Stream.{Message, lengthOf, bytesOf, joined}
-use Rattle.splitter.proofs.Cases.{fieldsIn}
+use Rattle.splitter.proofs.Laws.{handed-either}
+use Rattle.splitter.proofs.Cases.{lengthIn, fieldsIn}
 use Rattle.receiver.specs.Receive.{room, streamTooBig, outcomeOf, judgeOf, waiting}
 use Rattle.receiver.specs.declared.Outcome.{Outcome}
 use Rattle.receiver.proofs.Judging as Judging
 use Rattle.session.specs.Session.{Session, heldBytes, step, kit, split, standingAt, Follows}
 use Rattle.session.proofs.Boundary.{step-refused, step-message, step-too-big, says-too-big, step-waits}
-use Rattle.session.proofs.Since.{Each, Whole, joined-more, Now, waits, refuses, Since}
+use Rattle.session.proofs.Since.{Whole, joined-more, Now, waits, refuses, Since}
 
 -- ---- a walk that finds no message
 abbrev Finds : List Message → End → List ℕ → Type 0
 Finds l e s = (f : ℕ) → length s ≤ f → walk kit f s ≡ record { items = l; end = e }
 
 stops-at : (s : List ℕ) → step s ≡ stop → Finds [] (tail s) s
-unfolding walk
-stops-at s e zero l = refl
-stops-at s e (suc f) l = rw e
+stops-at s e f l = walk-stop kit f s e
 
 faults-at : (s : List ℕ) (r : Refusal) → step s ≡ bad r → 0 < length s → Finds [] (fault r) s
 unfolding walk
@@ -63,12 +63,12 @@ ends-waiting h most w =
     let s = step-waits h most w in
     record { end = tail h; finds = stops-at h (s .0); stands = rw (s .1) }
 
-module _ (h rest : List ℕ) (most : length h ≤ room) (r : Refusal) where
-  -- what holds nothing waits
-  some-held : (h : List ℕ) → judgeOf h ≡ Outcome.Refused r → 0 < length h
-  some-held [] j = absurd (true≢false (sym (Judging.waits-early [] (omega arith) (omega arith) (λ one. absurd (omega (arith, one)))) ∙ ap waiting j))
-  some-held (b ∷ h) j = omega arith
+-- what holds nothing waits
+pub some-held : (h : List ℕ) (r : Refusal) → judgeOf h ≡ Outcome.Refused r → 0 < length h
+some-held [] r j = absurd (true≢false (sym (Judging.waits-early [] (omega arith) (omega arith) (λ one. absurd (omega (arith, one)))) ∙ ap waiting j))
+some-held (b ∷ h) r j = omega arith
 
+module _ (h rest : List ℕ) (most : length h ≤ room) (r : Refusal) where
   ends-refused : judgeOf h ≡ Outcome.Refused r → Ends (h ++ rest) r
   ends-refused j = go (judgeOf h) (Judging.judged h most) j
     where
@@ -81,25 +81,22 @@ module _ (h rest : List ℕ) (most : length h ≤ room) (r : Refusal) where
       go _ (Judging.refused d s c p b) q =
           let same : d ≡ r = cc in
           let long = length-append h rest in
-          record { end = fault d; finds = faults-at (h ++ rest) d (step-refused h rest most d s c) (omega (arith, some-held h j, long)); stands = same }
+          record { end = fault d; finds = faults-at (h ++ rest) d (step-refused h rest most d s c) (omega (arith, some-held h r j, long)); stands = same }
       go _ (Judging.too-big w l u) q =
           let same : streamTooBig ≡ r = cc in
           record { end = tail (h ++ rest); finds = stops-at (h ++ rest) (step-too-big h rest most w l u); stands = rw (says-too-big h rest most w l u) same }
-      go _ (Judging.message w f) q = pick-in (λ a. outcomeOf h a ≡ Outcome.Refused r → Ends (h ++ rest) r) (ltb 6 (fieldsIn h .kind)) (λ x. apart cc) (λ x. apart cc) q
+      go _ (Judging.message w f) q = handed-either (λ a. outcomeOf h a ≡ Outcome.Refused r → Ends (h ++ rest) r) (fieldsIn h) (view 0 (lengthIn h)) (λ x. apart cc) (λ x. apart cc) q
 
 -- ---- a session that has taken s shows what the splitter finds in s, and in all of the stream where a refusal stands
 module _ (c : Session) (s : List ℕ) (x : Since c s) (rest : List ℕ) (left : c .state .standing .number ≡ Number.Good → rest ≡ []) where
-  pub held-there : length (heldBytes c) ≡ c .state .held
-  held-there = length-take-le (c .state .held) (c .buffer) (omega (arith, x .size, x .fits))
-
   most : length (heldBytes c) ≤ room
-  most = omega (arith, held-there, x .fits)
+  most = omega (arith, x .many, x .fits)
 
   ends : Now (heldBytes c) (c .state .standing) → Ends (heldBytes c ++ rest) (c .state .standing)
   ends (waits z w) =
       let none : heldBytes c ++ rest ≡ heldBytes c = ap (λ (t : List ℕ). heldBytes c ++ t) (left (ap (λ (r : Refusal). r .number) z)) ∙ append-nil (heldBytes c) in
       subst (λ (t : List ℕ). Ends t (c .state .standing)) (sym none) (subst (Ends (heldBytes c)) (sym z) (ends-waiting (heldBytes c) most w))
-  ends (refuses j) = ends-refused (heldBytes c) rest most (c .state .standing) j
+  ends (refuses j p) = ends-refused (heldBytes c) rest most (c .state .standing) j
 
   pub follows : Follows c (s ++ rest)
   follows =

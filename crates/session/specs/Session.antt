@@ -6,7 +6,7 @@ use lib.Dec.{eqb}
 use lib.ListN.{length, take, drop}
 use Rattle.wire.specs.Number as Number
 use Rattle.wire.specs.Bytes.{pick}
-use Rattle.wire.specs.Refusal.{noRefusal}
+use Rattle.wire.specs.Refusal.{refusal, noRefusal}
 use Rattle.wire.specs.View.{viewed}
 use Rattle.wire.specs.Walk.{Step, stop, bad, item, End, tail, fault, Walked, Kit, walk}
 use Rattle.wire.specs.declared.Refusal.{Refusal}
@@ -85,12 +85,20 @@ abbrev pub Pieces : List (List ℕ) → Type 0
 Pieces [] = Unit {0}
 Pieces (p ∷ ps) = (length p ≤ longestPiece) × Pieces ps
 
--- A caller puts each piece again from where the call stopped, till it is used up, and then the next. Where a refusal stands it may stop, with what is left.
+-- A caller puts each piece again from where the call stopped, till it is used up, and then the next. Where a refusal stands it may pass over what is left of a
+-- piece, and so over all pieces that are left.
 pub data Puts : Session → List (List ℕ) → Session → Type 0 where
   all-put : {c : Session} → Puts c [] c
   used-up : {c d : Session} {ps : List (List ℕ)} → Puts c ps d → Puts c ([] ∷ ps) d
   put-again : {c d : Session} {p : List ℕ} {ps : List (List ℕ)} → Puts (call c p) (drop (took c p) p ∷ ps) d → Puts c (p ∷ ps) d
-  stops : {c : Session} {ps : List (List ℕ)} → (c .state .standing .number ≡ Number.Good → ⊥) → Puts c ps c
+  passes-over : {c d : Session} {p : List ℕ} {ps : List (List ℕ)} → (c .state .standing .number ≡ Number.Good → ⊥) → Puts c ps d → Puts c (p ∷ ps) d
+
+-- ---- the refusals that stand, each with how many bytes have brought it: the first, or all six of a header
+pub data Brings : Refusal → ℕ → Type 0 where
+  wrong-version : Brings (refusal Number.BadVersion 0) 1
+  length-below-6 : Brings (refusal Number.BadMessageLength 1) 6
+  length-above-limit : Brings (refusal Number.TooLong 1) 6
+  length-above-buffer : Brings streamTooBig 6
 
 -- ---- what a session shows of a stream: the messages that the splitter hands out or skips, in order, and the refusal that then stands
 pub record Follows (c : Session) (s : List ℕ) : Type 0 where

@@ -13,10 +13,12 @@ use Rattle.wire.specs.Refusal.{refusal, noRefusal, lacking, cutAt}
 use Rattle.wire.specs.View.{view}
 use Rattle.wire.specs.declared.Refusal.{Refusal}
 use Rattle.wire.specs.declared.View.{View}
+use Rattle.wire.proofs.Refuses.{pick-in}
 use Rattle.wire.proofs.Waits.{said}
 use Rattle.common_header.specs.Grammar as Header
 use Rattle.common_header.specs.Fields as Fields
 use Rattle.common_header.specs.Read as HeaderRead
+use Rattle.common_header.specs.Shown.{headerFrom}
 use Rattle.common_header.specs.declared.CommonFields.{CommonFields}
 use Rattle.common_header.specs.declared.CommonFieldsAnswer.{CommonFieldsAnswer}
 use Rattle.common_header.specs.declared.CommonHeaderAnswer.{CommonHeaderAnswer}
@@ -87,6 +89,10 @@ hands-out f v =
     by-test : (b : Bool) {x y : SplitAnswer} → (b ≡ true → HandsOut f v x) → (b ≡ false → HandsOut f v y) → HandsOut f v (pick b x y)
     by-test true p q = p refl
     by-test false p q = q refl
+
+-- what holds of a message that is handed out and of one that is skipped holds of both
+pub handed-either : (P : SplitAnswer → Type 0) (f : CommonFields) (v : View) → P (SplitAnswer.Skipped f v) → P (SplitAnswer.Message (headerFrom f) v) → P (handedOut f v)
+handed-either P f v s m = pick-in P (ltb 6 (f .kind)) s m
 
 pub shown-good : (r : Reading) → refusalOf (shown r) .number ≡ Number.Good
 shown-good r = ap (λ (x : Refusal). x .number) (hands-out (Fields.fieldsOf (headerOf r)) (view 0 (r .length)) .is-good)

@@ -27,7 +27,7 @@ walk-suc : (K : Kit) (f : ℕ) (s : List ℕ) → walk K (suc f) s ≡ next (K .
 unfolding walk
 walk-suc K f s = refl
 
-walk-stop : (K : Kit) (f : ℕ) (s : List ℕ) → K .step s ≡ stop → walk K f s ≡ record { items = []; end = tail s }
+pub walk-stop : (K : Kit) (f : ℕ) (s : List ℕ) → K .step s ≡ stop → walk K f s ≡ record { items = []; end = tail s }
 unfolding walk
 walk-stop K zero s e = refl
 walk-stop K (suc f) s e = rw e

@@ -1,6 +1,6 @@
 use borrow.Author.Needs.{needs}
 use denote.Ref.{now}
-use mathlib.Core.Path.{sym, ap, _∙_, subst}
+use mathlib.Core.Path.{subst}
 use Rattle.receiver.specs.Receive.{refused}
 use Rattle.receiver.specs.Steps.{Enters}
 use Rattle.receiver.proofs.Calls.{refused-so, taken-so}

@@ -1,10 +1,7 @@
 use borrow.Author.Needs.{needs}
 use denote.Ref.{now}
-use mathlib.Core.Path.{sym, ap, _∙_}
 use native.Mathlib.Omega.{arith}
 use lib.ListN.{take}
-use lib.Seq.{paste}
-use Rattle.receiver.specs.Receive.{taken}
 use Rattle.receiver.proofs.Taking.{from-the-start}
 use Rattle.receiver.proofs.take_in.Statement.{statement}
 use Rattle.receiver.proofs.take_in.Tie as tie
