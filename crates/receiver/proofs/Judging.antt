@@ -20,7 +20,7 @@ use Rattle.splitter.specs.Read as Read
 use Rattle.splitter.specs.Read.{splitOf}
 use Rattle.splitter.specs.declared.SplitAnswer.{SplitAnswer}
 use Rattle.splitter.proofs.Laws.{Fitting, fitting-shown, handed-either}
-use Rattle.splitter.proofs.Cases.{lengthIn, fieldsIn, Headed, BadLength, below-6, above-limit, Case, early, other-version, bad-length, part, whole, split-version, split-headed, split-case}
+use Rattle.splitter.proofs.Cases.{lengthIn, fieldsIn, Headed, BadLength, below-6, above-limit, Case, early, other-version, bad-length, part, whole, split-headed, split-case}
 use Rattle.receiver.specs.Receive.{room, tooBig, streamTooBig, outcomeOf, judgeOf, waiting}
 use Rattle.receiver.specs.Steps.{byRoom}
 use Rattle.receiver.specs.declared.Outcome.{Outcome}
@@ -103,10 +103,6 @@ module _ (h : List ℕ) (most : length h ≤ room) where
       go _ (bad-length w r b e) = let six = w .six in absurd (omega (arith, six, few))
       go _ (part w l m f) = let six = w .six in absurd (omega (arith, six, few))
       go _ (whole w f) = let six = w .six in absurd (omega (arith, six, few))
-
-  pub wrong-version : 0 < length h → (numAt 1 h 0 ≡ 3 → ⊥) → waiting (judgeOf h) ≡ false
-  unfolding judgeOf
-  wrong-version one v = ap (λ (a : SplitAnswer). waiting (outcomeOf h a)) (split-version h short one v)
 
   pub waits-in-body : Headed h → 6 ≤ lengthIn h → lengthIn h ≤ room → length h < lengthIn h → waiting (judgeOf h) ≡ true
   unfolding judgeOf

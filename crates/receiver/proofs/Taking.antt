@@ -117,7 +117,7 @@ module _ (b : List ℕ) (held missing : ℕ) (lent : Held b held missing) (xs : 
     within : run ≤ length xs
     within = let s = shorter-le missing (length xs) .1 in omega (arith, s, is)
 
-    pub body-fits : held + run ≤ room
+    body-fits : held + run ≤ room
     body-fits = let f = taking .1 in omega (arith, f, held-there, is)
 
     body-taken : (before : ℕ) (o : Outcome) (r : Received) (b′ : List ℕ) → o ≡ judgeOf (take held b ++ take run xs)

@@ -1,5 +1,5 @@
 -- What the steps of the code are held to: the bytes of a piece taken in runs, each up to the next judgement.
-use Prim.Native.Nat.{ℕ, _+_, _-_, _≤_}
+use Prim.Native.Nat.{ℕ, _+_, _≤_}
 use mathlib.Core.Path.{_≡_}
 use mathlib.Core.List.{List, _++_}
 use lib.Dec.{ltb, eqb}

@@ -10,9 +10,6 @@ ghost use mathlib.Core.List.{[], _++_};
 ghost use Prim.Native.Nat.{_+_, _-_, _≤_, _<_};
 ghost use lib.ListN.{length, take};
 ghost use lib.Seq.{paste};
-ghost use Rattle.wire.specs.Refusal.{refusal};
-ghost use Rattle.splitter.specs.declared.SplitAnswer.{SplitAnswer};
-ghost use Rattle.receiver.specs.declared.Outcome.{Outcome};
 ghost use Rattle.receiver.specs.Receive.{room, longestPiece, judgeOf, holding, fresh, stateOf, settledBy, taken, refused, receiveOf, bufferOf};
 ghost use Rattle.receiver.specs.Steps.{Held, Enters, byRoom, takenAfter, shorter, firstRun, refusedRun};
 
@@ -58,7 +55,7 @@ pub fn reset() -> Receiver
 }
 
 // Takes bytes of a piece up to the end of at most one message. The buffer is to be the one of the calls before, as they left it; put the
-// piece again from where the call stopped, until it is used up.
+// piece again from where the call stopped, until it is used up or a call is refused.
 pub fn receive(buffer: &mut [u8], state: Receiver, piece: &[u8]) -> Received
     ensures { λ r. ⌜ r ≡ receiveOf (now (buffer .entry)) state (now (piece .entry)) ⌝ }
     ensures { λ _. ⌜ now (buffer .exit) ≡ bufferOf (now (buffer .entry)) state (now (piece .entry)) ⌝ }
