@@ -17,8 +17,8 @@ use Rattle.splitter.specs.Shown.{handedOut}
 use Rattle.splitter.specs.Read as Read
 use Rattle.splitter.specs.Read.{splitOf}
 use Rattle.splitter.specs.declared.SplitAnswer.{SplitAnswer}
-use Rattle.splitter.proofs.Laws.{Fitting, fitting-shown, handed-either}
-use Rattle.splitter.proofs.Cases.{lengthIn, fieldsIn, Headed, BadLength, below-6, above-limit, split-version, split-headed, number-more}
+use Rattle.splitter.proofs.Laws.{Fitting, fitting-shown, BadLength, below-6, above-limit, handed-either}
+use Rattle.splitter.proofs.Cases.{lengthIn, fieldsIn, Headed, split-version, split-headed, number-more}
 use Rattle.receiver.specs.Receive.{room, streamTooBig, outcomeOf, judgeOf, waiting, tookOf}
 use Rattle.receiver.specs.Steps.{firstRun, refusedRun}
 use Rattle.receiver.specs.declared.Outcome.{Outcome}

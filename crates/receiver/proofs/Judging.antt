@@ -19,8 +19,8 @@ use Rattle.splitter.specs.Shown.{handedOut}
 use Rattle.splitter.specs.Read as Read
 use Rattle.splitter.specs.Read.{splitOf}
 use Rattle.splitter.specs.declared.SplitAnswer.{SplitAnswer}
-use Rattle.splitter.proofs.Laws.{Fitting, fitting-shown, handed-either}
-use Rattle.splitter.proofs.Cases.{lengthIn, fieldsIn, Headed, BadLength, below-6, above-limit, Case, early, other-version, bad-length, part, whole, split-headed, split-case}
+use Rattle.splitter.proofs.Laws.{Fitting, fitting-shown, BadLength, below-6, above-limit, bad-length, part, whole, handed-either}
+use Rattle.splitter.proofs.Cases.{lengthIn, fieldsIn, Headed, Case, early, other-version, headed, split-headed, split-case}
 use Rattle.receiver.specs.Receive.{room, tooBig, streamTooBig, outcomeOf, judgeOf, waiting}
 use Rattle.receiver.specs.Steps.{byRoom}
 use Rattle.receiver.specs.declared.Outcome.{Outcome}
@@ -79,9 +79,9 @@ module _ (h : List ℕ) (most : length h ≤ room) where
       go : (a : SplitAnswer) → Case h a → splitOf h ≡ a → Judged h (outcomeOf h a)
       go _ (early {r} l v e m) q = subst (Judged h) (sym (cut-early r e l)) (in-header (r .missing) l v m)
       go _ (other-version one v) q = refused (refusal Number.BadVersion 0) q (λ e. absurd (omega (arith, e))) (omega arith) (by-version one v refl)
-      go _ (bad-length w r below-6 e) q = refused r q (λ z. absurd (omega (arith, z))) (omega arith) (by-header w below-6 e)
-      go _ (bad-length w r above-limit e) q = refused r q (λ z. absurd (omega (arith, z))) (omega arith) (by-header w above-limit e)
-      go _ (part w l m f) q = by-room (ltb room (lengthIn h)) refl
+      go _ (headed w (bad-length r below-6 e)) q = refused r q (λ z. absurd (omega (arith, z))) (omega arith) (by-header w below-6 e)
+      go _ (headed w (bad-length r above-limit e)) q = refused r q (λ z. absurd (omega (arith, z))) (omega arith) (by-header w above-limit e)
+      go _ (headed w (part l m f)) q = by-room (ltb room (lengthIn h)) refl
         where
           by-room : (b : Bool) → ltb room (lengthIn h) ≡ b → Judged h (outcomeOf h (SplitAnswer.Refused (lacking 6 (lengthIn h - length h))))
           by-room true b =
@@ -90,7 +90,7 @@ module _ (h : List ℕ) (most : length h ≤ room) where
           by-room false b =
               let o : outcomeOf h (SplitAnswer.Refused (lacking 6 (lengthIn h - length h))) ≡ Outcome.Waiting (lengthIn h - length h) = rw (by-length h w ∙ b) in
               subst (Judged h) (sym o) (in-body w l (ltb-false room (lengthIn h) b) f)
-      go _ (whole w f) q = message w f
+      go _ (headed w (whole f)) q = message w f
 
   -- ---- what is judged so, by what stands in the bytes
   pub waits-early : length h < 6 → (0 < length h → numAt 1 h 0 ≡ 3) → waiting (judgeOf h) ≡ true
@@ -100,9 +100,9 @@ module _ (h : List ℕ) (most : length h ≤ room) where
       go : (a : SplitAnswer) → Case h a → waiting (outcomeOf h a) ≡ true
       go _ (early {r} l v e m) = ap waiting (cut-early r e l)
       go _ (other-version one v) = absurd (v (three one))
-      go _ (bad-length w r b e) = let six = w .six in absurd (omega (arith, six, few))
-      go _ (part w l m f) = let six = w .six in absurd (omega (arith, six, few))
-      go _ (whole w f) = let six = w .six in absurd (omega (arith, six, few))
+      go _ (headed w (bad-length r b e)) = let six = w .six in absurd (omega (arith, six, few))
+      go _ (headed w (part l m f)) = let six = w .six in absurd (omega (arith, six, few))
+      go _ (headed w (whole f)) = let six = w .six in absurd (omega (arith, six, few))
 
   pub waits-in-body : Headed h → 6 ≤ lengthIn h → lengthIn h ≤ room → length h < lengthIn h → waiting (judgeOf h) ≡ true
   unfolding judgeOf
@@ -134,9 +134,9 @@ module _ (h : List ℕ) (most : length h ≤ room) where
   room-says _ (early {r} l v e m) =
       rw (eq-eqb (r .number) Number.Cut e, not-yet h l, le-ltb (room - length h) (r .missing) (omega (arith, m, l)))
   room-says _ (other-version one v) = refl
-  room-says _ (bad-length w r below-6 e) = refl
-  room-says _ (bad-length w r above-limit e) = refl
-  room-says _ (part w l m f) = go (ltb room (lengthIn h)) refl
+  room-says _ (headed w (bad-length r below-6 e)) = refl
+  room-says _ (headed w (bad-length r above-limit e)) = refl
+  room-says _ (headed w (part l m f)) = go (ltb room (lengthIn h)) refl
     where
       n : ℕ
       n = lengthIn h
@@ -144,7 +144,7 @@ module _ (h : List ℕ) (most : length h ≤ room) where
       go : (b : Bool) → ltb room n ≡ b → RoomSays (SplitAnswer.Refused (lacking 6 (n - length h)))
       go true b = let z = ltb-true room n b in rw (by-length h w ∙ b, lt-ltb (room - length h) (n - length h) (omega (arith, z, most)))
       go false b = let z = ltb-false room n b in rw (by-length h w ∙ b, le-ltb (room - length h) (n - length h) (omega (arith, z)))
-  room-says _ (whole w f) = handed-either RoomSays (fieldsIn h) (view 0 (lengthIn h)) tt tt
+  room-says _ (headed w (whole f)) = handed-either RoomSays (fieldsIn h) (view 0 (lengthIn h)) tt tt
 
   pub by-room : (r : Refusal) → splitOf h ≡ SplitAnswer.Refused r → byRoom r (room - length h) ≡ judgeOf h
   unfolding judgeOf

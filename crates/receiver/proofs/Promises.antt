@@ -9,12 +9,11 @@ use lib.Dec.{ltb, eqb}
 use lib.ListN.{length, take}
 use lib.Seq.{length-take-le}
 use Rattle.wire.specs.Number as Number
-use Rattle.wire.specs.Bytes.{numAt}
 use Rattle.wire.specs.Refusal.{refusal}
 use Rattle.wire.specs.declared.Refusal.{Refusal}
 use Rattle.wire.proofs.Determined.{determined}
 use Rattle.wire.proofs.Refuses.{pick-in}
-use Rattle.receiver.specs.Receive.{room, longestPiece, streamTooBig, judgeOf, waiting, tookOf, holding, fresh, settledBy, settled, taken, unfinished, refused, receiveOf, bufferOf}
+use Rattle.receiver.specs.Receive.{room, longestPiece, streamTooBig, SaysTooBig, judgeOf, waiting, tookOf, holding, fresh, settledBy, settled, taken, unfinished, refused, receiveOf, bufferOf}
 use Rattle.receiver.specs.declared.Outcome.{Outcome}
 use Rattle.receiver.specs.declared.Receiver.{Receiver}
 use Rattle.receiver.specs.declared.Received.{Received}
@@ -76,8 +75,8 @@ no-bytes b st m size free inside w =
 
 -- ---- StreamTooBig is brought by a header whose length field is from 65,537 to 1,048,576, and by nothing else.
 pub too-big-exactly : (h : List ℕ) → length h ≤ room
-    → (judgeOf h ≡ Outcome.Refused streamTooBig) ↔ ((6 ≤ length h) × (numAt 1 h 0 ≡ 3) × (room < numAt 4 h 1) × (numAt 4 h 1 ≤ Number.limit))
-too-big-exactly h most = (Sizes.says h most, λ x. Sizes.brings h most (x .0) (x .1) (x .2) (x .3))
+    → (judgeOf h ≡ Outcome.Refused streamTooBig) ↔ SaysTooBig h
+too-big-exactly h most = (Sizes.says h most, Sizes.brings h most)
 
 -- ---- What Waiting says: so many bytes are missing at least. With fewer the message waits for the rest of them.
 pub missing-some : (h : List ℕ) (m : ℕ) → judgeOf h ≡ Outcome.Waiting m → 0 < m

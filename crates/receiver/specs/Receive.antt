@@ -1,5 +1,6 @@
 -- What a receiver answers to a call, for every buffer, state and piece (docs/RULES.md, "Receiver").
-use Prim.Native.Nat.{ℕ, suc}
+use Prim.Native.Nat.{ℕ, suc, _≤_, _<_}
+use mathlib.Core.Path.{_≡_}
 use mathlib.Core.Bool.{Bool, true, false, not}
 use mathlib.Core.List.{List, [], _∷_, _++_}
 use lib.Dec.{ltb, eqb}
@@ -29,6 +30,13 @@ tooBig h = pick (ltb (length h) 6) false (ltb room (numAt 4 h 1))
 
 abbrev pub streamTooBig : Refusal
 streamTooBig = refusal Number.StreamTooBig 1
+
+-- the bytes that it is given for: a whole header of version 3 with a length from 65,537 to 1,048,576 (a promise of the receiver)
+pub record SaysTooBig (h : List ℕ) : Type 0 where
+  pub six : 6 ≤ length h
+  pub version-3 : numAt 1 h 0 ≡ 3
+  pub above-buffer : room < numAt 4 h 1
+  pub within-limit : numAt 4 h 1 ≤ Number.limit
 
 -- a refusal of the splitter, by whether the message would be too big: what is Cut is the start of one, unless it would
 abbrev pub refusedAs : Bool → Refusal → Outcome

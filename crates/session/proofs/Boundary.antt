@@ -20,8 +20,8 @@ use Rattle.splitter.specs.Shown as Shown
 use Rattle.splitter.specs.Read.{judged, splitOf}
 use Rattle.splitter.specs.Stream.{Message, known, skipped, lengthOf, bytesOf, asStep}
 use Rattle.splitter.specs.declared.SplitAnswer.{SplitAnswer}
-use Rattle.splitter.proofs.Laws.{hands-out}
-use Rattle.splitter.proofs.Cases.{lengthIn, fieldsIn, Headed, below-6, above-limit, Case, early, other-version, bad-length, part, whole, split-case, split-headed, number-more, fields-more, headed-more}
+use Rattle.splitter.proofs.Laws.{below-6, above-limit, bad-length, part, whole, hands-out}
+use Rattle.splitter.proofs.Cases.{lengthIn, fieldsIn, Headed, Case, early, other-version, headed, split-case, split-headed, number-more, fields-more, headed-more}
 use Rattle.splitter.proofs.Promises.{stays}
 use Rattle.splitter.proofs.Stream.{splitAs, Stands}
 use Rattle.receiver.specs.Receive.{room, tooBig, outcomeOf, judgeOf, waiting}
@@ -121,10 +121,10 @@ length-split h most m e = go (splitOf h) (split-case h (omega (arith, most))) e
     go : (a : SplitAnswer) → Case h a → a ≡ splitAs m → lengthOf m ≡ lengthIn h
     go _ (early {r} l v c k) q = no r (omega (arith, c)) q
     go _ (other-version one v) q = no _ (omega arith) q
-    go _ (bad-length w r below-6 k) q = no r (omega arith) q
-    go _ (bad-length w r above-limit k) q = no r (omega arith) q
-    go _ (part w l u f) q = no _ (omega arith) q
-    go _ (whole w f) q =
+    go _ (headed w (bad-length r below-6 k)) q = no r (omega arith) q
+    go _ (headed w (bad-length r above-limit k)) q = no r (omega arith) q
+    go _ (headed w (part l u f)) q = no _ (omega arith) q
+    go _ (headed w (whole f)) q =
         sym (length-as m) ∙ ap (λ (x : SplitAnswer). Shown.fieldsIn x .«msg_len») (sym q)
         ∙ ap (λ (x : CommonFields). x .«msg_len») (hands-out (fieldsIn h) (view 0 (lengthIn h)) .fields-are)
 

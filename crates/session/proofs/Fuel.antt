@@ -9,7 +9,7 @@ use lib.ListN.{length, take, drop, length-drop}
 use Rattle.wire.specs.Number as Number
 use Rattle.wire.specs.Bytes.{pick}
 use Rattle.wire.specs.View.{viewed}
-use Rattle.wire.specs.Walk.{Step, stop, bad, item, Walked, next, walk}
+use Rattle.wire.specs.Walk.{Step, stop, bad, item, tail, Walked, next, walk}
 use Rattle.wire.proofs.Walk.{walk-stop}
 use Rattle.splitter.specs.Read.{splitOf}
 use Rattle.splitter.specs.Stream.{Message, known, skipped, lengthOf, asStep}
@@ -88,3 +88,31 @@ split-step (x ∷ s) = go (step (x ∷ s)) refl
         let some = takes (x ∷ s) m e in
         let d = length-drop (lengthOf m) (x ∷ s) in
         ap (λ (w : Walked Message). next (item m) (x ∷ s) (λ _. w)) (same-walk (length s) (length (drop (lengthOf m) (x ∷ s))) (drop (lengthOf m) (x ∷ s)) (omega (arith, d, some)) (omega arith))
+
+-- ---- and where it ends with bytes that are left, the splitter is Cut there
+abbrev Tails : ℕ → Type 0
+Tails f = (s z : List ℕ) → length s ≤ f → walk kit f s .end ≡ tail z → step z ≡ stop
+
+no-step : Tails zero
+unfolding walk
+no-step [] z l e = let q : [] ≡ z = cc in subst (λ (y : List ℕ). step y ≡ stop) q step-none
+no-step (x ∷ s) z l e = absurd (omega (arith, l))
+
+one-step : (f : ℕ) → Tails f → Tails (suc f)
+unfolding walk
+one-step f i s z l e = go (step s) refl e
+  where
+    go : (q : Step Message) → step s ≡ q → next q s (λ m. walk kit f (drop (lengthOf m) s)) .end ≡ tail z → step z ≡ stop
+    go stop h e = let q : s ≡ z = cc in subst (λ (y : List ℕ). step y ≡ stop) q h
+    go (bad r) h e = let q : _≡_ {A = ℕ} 0 1 = cc in absurd (omega (arith, q))
+    go (item m) h e =
+        let some = takes s m h in
+        let d = length-drop (lengthOf m) s in
+        i (drop (lengthOf m) s) z (omega (arith, d, some, l)) e
+
+tails : (f : ℕ) → Tails f
+tails zero = no-step
+tails (suc f) = one-step f (tails f)
+
+pub split-waits : (s z : List ℕ) → split s .end ≡ tail z → step z ≡ stop
+split-waits s z e = tails (length s) s z (omega arith) e

@@ -10,14 +10,14 @@ use Rattle.wire.specs.Number as Number
 use Rattle.wire.specs.Walk.{tail, next}
 use Rattle.wire.specs.declared.Refusal.{Refusal}
 use Rattle.splitter.specs.Stream.{lengthOf, joined}
-use Rattle.receiver.specs.Receive.{room, longestPiece, tooBig, streamTooBig, judgeOf, waiting}
+use Rattle.receiver.specs.Receive.{room, longestPiece, streamTooBig, SaysTooBig, judgeOf, waiting}
 use Rattle.session.specs.Session.{Session, begun, took, heldBytes, step, split, standingAt, Called, Pieces, Puts, Brings, Follows}
 use Rattle.session.proofs.Taken.{took-waits, took-ends}
 use Rattle.session.proofs.Since.{Now, waits, refuses, Since, began, called-since, held-waits}
 use Rattle.session.proofs.Walked.{follows}
-use Rattle.session.proofs.Fuel.{split-step}
+use Rattle.session.proofs.Fuel.{split-step, split-waits}
 use Rattle.session.proofs.Cuts.{Leads, puts-lead, leads-follows, took-is, pieces-end, same-messages, same-held, same-state}
-use Rattle.session.proofs.Faults.{brings, too-big-waits}
+use Rattle.session.proofs.Faults.{brings, too-big-waits, says-so, said-big}
 
 -- ---- a stream in pieces; the buffer that is lent may hold anything at first
 leads : (b : List ℕ) → length b ≡ room → {ps : List (List ℕ)} {c : Session} → Puts (begun b) ps c → Leads c (flatten ps)
@@ -85,9 +85,9 @@ module _ (b : List ℕ) (size : length b ≡ room) {c : Session} {s : List ℕ} 
       let w = held-waits c s x free in
       rw (took-is c s xs x short free w) (took-waits (heldBytes c) xs w, took-ends (heldBytes c) xs)
 
--- ---- StreamTooBig stands exactly where the header at a boundary says so: it waits, and its length is above 65,536.
-pub fifteen : (c : Session) (s : List ℕ) → Follows c s → (c .state .standing ≡ streamTooBig) ↔ ((z : List ℕ) × (split s .end ≡ tail z) × (tooBig z ≡ true))
+-- ---- StreamTooBig stands exactly where the header at a boundary says so: the splitter waits there, and the length is from 65,537 to 1,048,576.
+pub fifteen : (c : Session) (s : List ℕ) → Follows c s → (c .state .standing ≡ streamTooBig) ↔ ((z : List ℕ) × (split s .end ≡ tail z) × SaysTooBig z)
 fifteen c s f = (
-  λ e. too-big-waits s (split s .end) refl (sym (f .standing-is) ∙ e),
-  λ z. f .standing-is ∙ ap standingAt (z .1) ∙ rw (z .2),
+  λ e. let z = too-big-waits s (split s .end) refl (sym (f .standing-is) ∙ e) in (z .0, z .1, says-so (z .0) (split-waits s (z .0) (z .1)) (z .2)),
+  λ z. f .standing-is ∙ ap standingAt (z .1) ∙ rw (said-big (z .0) (z .2)),
 )

@@ -8,19 +8,18 @@ use borrow.Author.Tests.{ltb-true, ltb-false, eqb-true, eqb-false, le-ltb}
 use lib.Dec.{ltb, eqb}
 use lib.ListN.{length, length-append}
 use Rattle.wire.specs.Number as Number
-use Rattle.wire.specs.Bytes.{pick, numAt}
-use Rattle.wire.specs.Refusal.{refusal, lacking}
-use Rattle.wire.specs.View.{view}
+use Rattle.wire.specs.Bytes.{numAt}
+use Rattle.wire.specs.Refusal.{refusal}
 use Rattle.wire.specs.declared.Refusal.{Refusal}
 use Rattle.wire.proofs.Waits.{by-number}
 use Rattle.common_header.specs.Fields.{partsOf, fieldsOf, readFields}
 use Rattle.common_header.specs.declared.CommonFields.{CommonFields}
 use Rattle.common_header.specs.declared.CommonFieldsAnswer.{CommonFieldsAnswer}
 use Rattle.common_header.proofs.Fields as Fields
-use Rattle.splitter.specs.Shown.{handedOut, refusalOf}
+use Rattle.splitter.specs.Shown.{refusalOf}
 use Rattle.splitter.specs.Read.{judged, afterFields, splitOf}
 use Rattle.splitter.specs.declared.SplitAnswer.{SplitAnswer}
-use Rattle.splitter.proofs.Laws.{Fitting, fitting-shown}
+use Rattle.splitter.proofs.Laws.{Fitting, fitting-shown, Sized, bad-length, part, whole, sized}
 
 -- the length field and all three fields, where they are there
 abbrev pub lengthIn : List ℕ → ℕ
@@ -34,18 +33,11 @@ pub record Headed (s : List ℕ) : Type 0 where
   pub six : 6 ≤ length s
   pub three : numAt 1 s 0 ≡ 3
 
--- the two refusals that the length of a whole header brings, however many bytes are there
-pub data BadLength : Refusal → Type 0 where
-  below-6 : BadLength (refusal Number.BadMessageLength 1)
-  above-limit : BadLength (refusal Number.TooLong 1)
-
--- not all of the header is there, and what is may be the start of one; then the version; then the length; then how many bytes are there
+-- not all of the header is there, and what is may be the start of one; then the version; then the length decides
 pub data Case (s : List ℕ) : SplitAnswer → Type 0 where
   early : {r : Refusal} → length s < 6 → (0 < length s → numAt 1 s 0 ≡ 3) → r .number ≡ Number.Cut → length s + r .missing ≤ 6 → Case s (SplitAnswer.Refused r)
   other-version : 0 < length s → (numAt 1 s 0 ≡ 3 → ⊥) → Case s (SplitAnswer.Refused (refusal Number.BadVersion 0))
-  bad-length : Headed s → (r : Refusal) → BadLength r → ((there : ℕ) → judged there (fieldsIn s) ≡ SplitAnswer.Refused r) → Case s (SplitAnswer.Refused r)
-  part : Headed s → 6 ≤ lengthIn s → lengthIn s ≤ Number.limit → length s < lengthIn s → Case s (SplitAnswer.Refused (lacking 6 (lengthIn s - length s)))
-  whole : Headed s → Fitting (length s) (lengthIn s) → Case s (handedOut (fieldsIn s) (view 0 (lengthIn s)))
+  headed : {a : SplitAnswer} → Headed s → Sized (length s) (fieldsIn s) a → Case s a
 
 module _ (s : List ℕ) (short : length s ≤ Number.limit) where
   -- where the slice is not too long, the fields say
@@ -60,20 +52,6 @@ module _ (s : List ℕ) (short : length s ≤ Number.limit) where
   split-headed w =
       let six = w .six in
       by-fields _ (Fields.whole s (omega (arith, six)) (w .three) (omega (arith, six)) (omega (arith, six)))
-
-  by-length : Headed s → Case s (judged (length s) (fieldsIn s))
-  by-length w = go (ltb n 6) refl (ltb Number.limit n) refl (ltb (length s) n) refl
-    where
-      n : ℕ
-      n = lengthIn s
-
-      go : (a : Bool) → ltb n 6 ≡ a → (b : Bool) → ltb Number.limit n ≡ b → (c : Bool) → ltb (length s) n ≡ c
-          → Case s (pick a (SplitAnswer.Refused (refusal Number.BadMessageLength 1)) (pick b (SplitAnswer.Refused (refusal Number.TooLong 1))
-          (pick c (SplitAnswer.Refused (lacking 6 (n - length s))) (handedOut (fieldsIn s) (view 0 n)))))
-      go true ha b hb c hc = bad-length w _ below-6 (λ there. rw ha)
-      go false ha true hb c hc = bad-length w _ above-limit (λ there. rw (ha, hb))
-      go false ha false hb true hc = part w (ltb-false n 6 ha) (ltb-false Number.limit n hb) (ltb-true (length s) n hc)
-      go false ha false hb false hc = whole w (record { least = ltb-false n 6 ha; most = ltb-false Number.limit n hb; all-there = ltb-false (length s) n hc })
 
   is : {a : SplitAnswer} → splitOf s ≡ a → Case s a → Case s (splitOf s)
   is e x = subst (Case s) (sym e) x
@@ -106,7 +84,7 @@ module _ (s : List ℕ) (short : length s ≤ Number.limit) where
               is (by-fields _ (Fields.no-length s (omega (arith, one)) three (omega (arith, less, one)))) (early few (λ _. three) refl (omega (arith, less, one)))
       go false ha true hb false hc d hd =
           let w : Headed s = record { six = ltb-false (length s) 6 hc; three = eqb-true (numAt 1 s 0) 3 hb } in
-          is (split-headed w) (by-length w)
+          is (split-headed w) (headed w (sized (length s) (fieldsIn s)))
 
 -- ---- bytes that come behind a header do not change it
 module _ (s t : List ℕ) where
@@ -133,8 +111,8 @@ module _ (s t : List ℕ) where
       go : (a : SplitAnswer) → Case s a → (refusalOf a .number ≡ Number.Cut → ⊥) → splitOf (s ++ t) ≡ a
       go _ (early l v e m) d = absurd (d e)
       go _ (other-version one v) d = split-version (s ++ t) short (omega (arith, one, longer)) (λ e. v (sym (number-more 1 0 (omega (arith, one))) ∙ e))
-      go _ (bad-length w r b e) d = split-headed (s ++ t) short (headed-more w) ∙ ap (judged (length (s ++ t))) (fields-more w) ∙ e (length (s ++ t))
-      go _ (part w l m f) d = absurd (d refl)
-      go _ (whole w f) d =
+      go _ (headed w (bad-length r b e)) d = split-headed (s ++ t) short (headed-more w) ∙ ap (judged (length (s ++ t))) (fields-more w) ∙ e (length (s ++ t))
+      go _ (headed w (part l m f)) d = absurd (d refl)
+      go _ (headed w (whole f)) d =
           let there : Fitting (length (s ++ t)) (lengthIn s) = record { least = f .least; most = f .most; all-there = omega (arith, f .all-there, longer) } in
           split-headed (s ++ t) short (headed-more w) ∙ ap (judged (length (s ++ t))) (fields-more w) ∙ fitting-shown (length (s ++ t)) (fieldsIn s) there

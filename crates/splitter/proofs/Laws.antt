@@ -1,7 +1,7 @@
 -- What the splitter accepts, and how the stream is cut at the header's length. Assumes nothing.
 use mathlib.Core.Path.{_≡_, refl, ap}
 use mathlib.Core.Bool.{Bool, true, false}
-use Prim.Native.Nat.{ℕ, suc, _+_, _-_, _≤_}
+use Prim.Native.Nat.{ℕ, suc, _+_, _-_, _≤_, _<_}
 use native.Mathlib.Omega.{arith}
 use borrow.Author.Tests.{ltb-true, ltb-false, le-ltb}
 use lib.Dec.{ltb}
@@ -44,23 +44,42 @@ pub fitting-shown : (there : ℕ) (f : CommonFields) → Fitting there (f .«msg
 fitting-shown there f x =
     rw (le-ltb (f .«msg_len») 6 (x .least), le-ltb Number.limit (f .«msg_len») (x .most), le-ltb there (f .«msg_len») (x .all-there))
 
-pub judged-good : (there : ℕ) (f : CommonFields) → refusalOf (judged there f) .number ≡ Number.Good → Fitting there (f .«msg_len»)
-judged-good there f e = go (ltb n 6) refl (ltb Number.limit n) refl (ltb there n) refl e
+-- the two refusals that a length brings, however many bytes are there
+pub data BadLength : Refusal → Type 0 where
+  below-6 : BadLength (refusal Number.BadMessageLength 1)
+  above-limit : BadLength (refusal Number.TooLong 1)
+
+-- what the length of a whole header comes to: it is none that a message has; or not all bytes are there; or they are
+pub data Sized (there : ℕ) (f : CommonFields) : SplitAnswer → Type 0 where
+  bad-length : (r : Refusal) → BadLength r → ((any : ℕ) → judged any f ≡ SplitAnswer.Refused r) → Sized there f (SplitAnswer.Refused r)
+  part : 6 ≤ f .«msg_len» → f .«msg_len» ≤ Number.limit → there < f .«msg_len» → Sized there f (SplitAnswer.Refused (lacking 6 (f .«msg_len» - there)))
+  whole : Fitting there (f .«msg_len») → Sized there f (handedOut f (view 0 (f .«msg_len»)))
+
+pub sized : (there : ℕ) (f : CommonFields) → Sized there f (judged there f)
+sized there f = go (ltb n 6) refl (ltb Number.limit n) refl (ltb there n) refl
   where
     n : ℕ
     n = f .«msg_len»
 
-    no : {k : ℕ} → suc k ≡ 0 → Fitting there n
+    go : (a : Bool) → ltb n 6 ≡ a → (b : Bool) → ltb Number.limit n ≡ b → (c : Bool) → ltb there n ≡ c
+        → Sized there f (pick a (SplitAnswer.Refused (refusal Number.BadMessageLength 1)) (pick b (SplitAnswer.Refused (refusal Number.TooLong 1))
+        (pick c (SplitAnswer.Refused (lacking 6 (n - there))) (handedOut f (view 0 n)))))
+    go true ha b hb c hc = bad-length _ below-6 (λ any. rw ha)
+    go false ha true hb c hc = bad-length _ above-limit (λ any. rw (ha, hb))
+    go false ha false hb true hc = part (ltb-false n 6 ha) (ltb-false Number.limit n hb) (ltb-true there n hc)
+    go false ha false hb false hc = whole (record { least = ltb-false n 6 ha; most = ltb-false Number.limit n hb; all-there = ltb-false there n hc })
+
+pub judged-good : (there : ℕ) (f : CommonFields) → refusalOf (judged there f) .number ≡ Number.Good → Fitting there (f .«msg_len»)
+judged-good there f e = go (judged there f) (sized there f) e
+  where
+    no : {k : ℕ} → suc k ≡ 0 → Fitting there (f .«msg_len»)
     no q = absurd (omega arith)
 
-    go : (a : Bool) → ltb n 6 ≡ a → (b : Bool) → ltb Number.limit n ≡ b → (c : Bool) → ltb there n ≡ c
-        → refusalOf (pick a (SplitAnswer.Refused (refusal Number.BadMessageLength 1)) (pick b (SplitAnswer.Refused (refusal Number.TooLong 1))
-        (pick c (SplitAnswer.Refused (lacking 6 (n - there))) (handedOut f (view 0 n))))) .number ≡ Number.Good
-        → Fitting there n
-    go true ha b hb c hc q = no q
-    go false ha true hb c hc q = no q
-    go false ha false hb true hc q = no q
-    go false ha false hb false hc q = record { least = ltb-false n 6 ha; most = ltb-false Number.limit n hb; all-there = ltb-false there n hc }
+    go : (a : SplitAnswer) → Sized there f a → refusalOf a .number ≡ Number.Good → Fitting there (f .«msg_len»)
+    go _ (bad-length r below-6 k) q = no q
+    go _ (bad-length r above-limit k) q = no q
+    go _ (part l m few) q = no q
+    go _ (whole x) q = x
 
 -- a good answer comes from good fields
 pub fields-accepted : (there : ℕ) (a : CommonFieldsAnswer) → refusalOf (afterFields there a) .number ≡ Number.Good → Fields.refusalOf a .number ≡ Number.Good
