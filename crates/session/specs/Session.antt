@@ -7,6 +7,7 @@ use lib.ListN.{length, take, drop}
 use Rattle.wire.specs.Number as Number
 use Rattle.wire.specs.Bytes.{pick}
 use Rattle.wire.specs.Refusal.{refusal, noRefusal}
+use Rattle.wire.specs.Rfc.{Each}
 use Rattle.wire.specs.View.{viewed}
 use Rattle.wire.specs.Walk.{Step, stop, bad, item, End, tail, fault, Walked, Kit, walk}
 use Rattle.wire.specs.declared.Refusal.{Refusal}
@@ -82,8 +83,7 @@ pub data Called (b : List ℕ) : Session → List ℕ → Type 0 where
 -- ---- a stream in pieces: joined, in order, they are the stream (`flatten`)
 -- none is longer than a call takes
 abbrev pub Pieces : List (List ℕ) → Type 0
-Pieces [] = Unit {0}
-Pieces (p ∷ ps) = (length p ≤ longestPiece) × Pieces ps
+Pieces ps = Each (λ (p : List ℕ). length p ≤ longestPiece) ps
 
 -- A caller puts each piece again from where the call stopped, till it is used up, and then the next. Where a refusal stands it may pass over what is left of a
 -- piece, and so over all pieces that are left.
