@@ -1,4 +1,6 @@
 // A field of sixteen bytes, and the address that it shows.
+#![tactic(auto)]
+
 ghost use Rattle.std.specs.Prelude.{◌≡◌, ◌+◌, ◌≤◌, drop, replicate};
 ghost use Rattle.std.proofs.Math.Seq.{paste};
 ghost use Rattle.addresses.specs.Address.{sixteen_at, shown_ip, router_ip};

@@ -1,6 +1,8 @@
 // A board of up to 64 peers, each under its whole key with its last report, by value.
 //
 // The functions hand a new board back; those of `lent_board` bring a lent one up to date in place by them.
+#![tactic(auto)]
+
 ghost use Rattle.std.specs.Prelude.{◌≡◌};
 ghost use Rattle.board.specs.Board.{silent, heard, free_place, empty_board, hits, find_key, find_free, place_for, number_at, report_number, Upped, Downed, Reported, LookedUp};
 
@@ -17,35 +19,35 @@ use stats_report::StatsReport;
 pub const PEER_PLACES: usize = 64;
 
 // Which peer uses the place, where one does.
-#[derive(Drop)]
+#[derive(Clone, Copy)]
 pub struct Place {
     pub key: PeerKey,
     pub used: bool,
 }
 
 // What is known of a peer that is up: its last report, or that there is none yet.
-#[derive(Drop)]
+#[derive(Clone, Copy)]
 pub struct Peer {
     pub report: KeptReport,
     pub reported: bool,
 }
 
 // The peer of a place stands at the same index as the place. What no peer uses is all zero on a board that began empty.
-#[derive(Drop)]
+#[derive(Clone, Copy)]
 pub struct Board {
     pub places: [Place; PEER_PLACES],
     pub peers: [Peer; PEER_PLACES],
 }
 
 // The number of a call, 0 where it was done, and the board after it, which a refusal leaves as it was.
-#[derive(Drop)]
+#[derive(Clone, Copy)]
 pub struct Updated {
     pub number: u8,
     pub board: Board,
 }
 
 // What a lookup found: 0 and the peer, or the number of NoPeer and an all-zero one.
-#[derive(Drop)]
+#[derive(Clone, Copy)]
 pub struct Looked {
     pub number: u8,
     pub peer: Peer,

@@ -1,4 +1,6 @@
 // The common header of a BMP message (RFC 7854, section 4.1).
+#![tactic(auto)]
+
 ghost use Rattle.std.specs.Prelude.{◌≡◌};
 ghost use Rattle.common_header.specs.declared.CommonFieldsAnswer.{CommonFieldsAnswer};
 ghost use Rattle.common_header.specs.declared.CommonHeaderAnswer.{CommonHeaderAnswer};
@@ -9,7 +11,7 @@ ghost use Rattle.common_header.specs.Read.{judged, read_common_header};
 use cursor::{Cursor, ReadU8, ReadU32};
 use wire::Refusal;
 
-#[derive(Drop)]
+#[derive(Clone, Copy)]
 pub enum BmpMsgType {
     RouteMonitoring,
     StatisticsReport,
@@ -26,7 +28,7 @@ pub const VERSION: u8 = 3;
 // How many bytes the header takes.
 pub const COMMON_HEADER: usize = 6;
 
-#[derive(Drop)]
+#[derive(Clone, Copy)]
 pub struct BmpCommonHeader {
     pub version: u8,
     pub msg_len: u32,
@@ -34,14 +36,14 @@ pub struct BmpCommonHeader {
 }
 
 // The header and the place after it, or why there is none.
-#[derive(Drop)]
+#[derive(Clone, Copy)]
 pub enum CommonHeaderAnswer {
     Good(BmpCommonHeader, usize),
     Refused(Refusal),
 }
 
 // Version, length and type as they stand there: the type may be any number.
-#[derive(Drop)]
+#[derive(Clone, Copy)]
 pub struct CommonFields {
     pub version: u8,
     pub msg_len: u32,
@@ -49,7 +51,7 @@ pub struct CommonFields {
 }
 
 // The fields, behind which the message goes on at 6, or why they are refused.
-#[derive(Drop)]
+#[derive(Clone, Copy)]
 pub enum CommonFieldsAnswer {
     Good(CommonFields),
     Refused(Refusal),

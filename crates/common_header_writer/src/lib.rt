@@ -1,4 +1,6 @@
 // Writing the common header of a BMP message (RFC 7854, section 4.1).
+#![tactic(auto)]
+
 ghost use Rattle.std.specs.Prelude.{◌≡◌, ◌≤◌, length};
 ghost use Rattle.std.proofs.lemmas.List.Edits.{sets};
 ghost use Rattle.writing.specs.Write.{Wrote};

@@ -1,35 +1,37 @@
 // Reading numbers one after another: each read hands back the number and the next place.
+#![tactic(auto)]
+
 ghost use Rattle.std.specs.Prelude.{◌≡◌};
 ghost use Rattle.cursor.specs.Read.{read, as_u8, as_u16, as_u32, as_u64};
 
 use wire::{Need, Refusal};
 
 // The place of the next byte to be read.
-#[derive(Drop)]
+#[derive(Clone, Copy)]
 pub struct Cursor {
     pub at: usize,
 }
 
 // The number and the cursor behind it, or the Cut of a number that is not all there.
-#[derive(Drop)]
+#[derive(Clone, Copy)]
 pub enum ReadU8 {
     Good(u8, Cursor),
     Cut(Refusal),
 }
 
-#[derive(Drop)]
+#[derive(Clone, Copy)]
 pub enum ReadU16 {
     Good(u16, Cursor),
     Cut(Refusal),
 }
 
-#[derive(Drop)]
+#[derive(Clone, Copy)]
 pub enum ReadU32 {
     Good(u32, Cursor),
     Cut(Refusal),
 }
 
-#[derive(Drop)]
+#[derive(Clone, Copy)]
 pub enum ReadU64 {
     Good(u64, Cursor),
     Cut(Refusal),

@@ -1,4 +1,6 @@
 // Numbers in decimal, as text.
+#![tactic(auto)]
+
 ghost use Rattle.std.specs.Prelude.{◌≡◌, length};
 ghost use Rattle.writing.specs.Write.{put_at};
 ghost use Rattle.decimal.specs.Decimal.{decimal};

@@ -1,4 +1,6 @@
 // The body of a BMP Initiation message (RFC 7854, section 4.3).
+#![tactic(auto)]
+
 ghost use Rattle.std.specs.Prelude.{◌≡◌, ◌≤◌, length};
 ghost use Rattle.wire.specs.Number as Number;
 ghost use Rattle.initiation_message.specs.Shown.{type_of, kind_of, info_of, zero_tlv, refused_answer};
@@ -8,7 +10,7 @@ use cursor::Cursor;
 use tlv_head::TlvHead;
 use wire::{Refusal, View};
 
-#[derive(Drop)]
+#[derive(Clone, Copy)]
 pub enum InitiationTlvType {
     String,
     SysDescr,
@@ -19,7 +21,7 @@ pub enum InitiationTlvType {
 }
 
 // A TLV as the wire has it: its type, its length, and the place of its value.
-#[derive(Drop)]
+#[derive(Clone, Copy)]
 pub struct InitiationTlv {
     pub kind: u16,
     pub info_len: u16,
@@ -27,14 +29,14 @@ pub struct InitiationTlv {
 }
 
 // The TLVs, of which the first count are used; the others are zero.
-#[derive(Drop)]
+#[derive(Clone, Copy)]
 pub struct InitiationMessage {
     pub tlvs: [InitiationTlv; wire::TLV_PLACES],
     pub count: usize,
 }
 
 // The stop is what the Rust has consumed, the tail starts where the last TLV ends: after an oversized length they differ by 4.
-#[derive(Drop)]
+#[derive(Clone, Copy)]
 pub struct InitiationAnswer {
     pub refusal: Refusal,
     pub stop: usize,
@@ -43,7 +45,7 @@ pub struct InitiationAnswer {
 }
 
 // What stands at a place of the walk: its end with the stop place, or the three numbers of a TLV and the cursor past it.
-#[derive(Drop)]
+#[derive(Clone, Copy)]
 enum Step {
     Stop(usize),
     Whole(u16, u16, u32, Cursor),

@@ -1,4 +1,6 @@
 // Writing the body of a BMP Initiation message (RFC 7854, section 4.3).
+#![tactic(auto)]
+
 ghost use Rattle.std.specs.Prelude.{◌≡◌, length};
 ghost use Rattle.writing.specs.Write.{Wrote};
 ghost use Rattle.initiation_message_writer.specs.Write.{entry_of, bytes_of, writable};

@@ -6,17 +6,11 @@ use mathlib.Core.Bool.{Bool, true, false}
 use native.Mathlib.Numerals.{add-one}
 use native.Mathlib.Omega.{arith}
 use borrow.Author.Tests.{ltb-false}
-use denote.Laws.{Is}
-use denote.Struct.Laws as LL
 use lib.Dec.{ltb}
-use mir.Val.{Val}
 use lib.ListN.{length, replicate, take, get_or, set, length-map}
 use lib.Seq.{take-suc, set_at, length-take-le}
 use Rattle.stats_report.specs.Grammar.{places}
 use Rattle.stats_report.specs.declared.StatCounter.{StatCounter}
-use Rattle.stats_report.specs.declared.StatsReport.{StatsReport}
-use Rattle.stats_report.specs.contracts.StatsReport as S
-use Rattle.stats_report.proofs.StatsReport.TheLaws as S'
 use Rattle.kept_report.specs.Kept.{kept_counter, no_counter, table, table_count}
 use Rattle.kept_report.specs.declared.KeptCounter.{KeptCounter}
 
@@ -54,7 +48,3 @@ at_most count n e = by (ltb places count) refl
     by : (t : Bool) → ltb places count ≡ t → n ≤ places
     by true h = let z : n ≡ places = e ∙ rw h in omega arith
     by false h = let z : n ≡ count = e ∙ rw h in let y = ltb-false places count h in omega arith
-
--- how long the table of a report is, from what owning one tells
-pub counters_long : (r : StatsReport) (vs : List Val) → Is S.the_row r vs → length r.counters ≡ 64
-counters_long r vs is = sym (length-map r.counters _) ∙ (LL.owed S.the_type S'.the_laws r vs is).0.1.0.1

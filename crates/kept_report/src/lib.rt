@@ -1,4 +1,6 @@
 // What is kept of a Statistics Report (RFC 7854, section 4.8) once its bytes are gone: the counters, without the places of raw values.
+#![tactic(auto)]
+
 ghost use Rattle.std.specs.Prelude.{◌≡◌};
 ghost use Rattle.stats_type.specs.Shown.{type_of};
 ghost use Rattle.kept_report.specs.Kept.{counter_of, is_raw, kept_counter, kept_report, kept_data, no_report, table_count};
@@ -8,14 +10,14 @@ use stats_report::{StatCounter, StatsReport};
 use stats_type::StatType;
 
 // The counters and how many of them there are; those past the count are zero.
-#[derive(Drop)]
+#[derive(Clone, Copy)]
 pub struct KeptReport {
     pub counters: [KeptCounter; stats_report::COUNTER_PLACES],
     pub count: usize,
 }
 
 // A record of the report. The length alone says the form, as in the report; of a raw value type and length are all that is kept.
-#[derive(Drop)]
+#[derive(Clone, Copy)]
 pub struct KeptCounter {
     pub kind: u16,
     pub stat_len: u16,
@@ -25,7 +27,7 @@ pub struct KeptCounter {
 }
 
 // What a kept counter says: as `StatsData`, but a raw value's bytes are gone.
-#[derive(Drop)]
+#[derive(Clone, Copy)]
 pub enum KeptData {
     Counter(u32),
     Gauge(u64),

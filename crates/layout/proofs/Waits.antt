@@ -20,14 +20,14 @@ further at w rest end e = omega arith
 
 -- a reader that needs fields of these widths from a place on, and goes on behind them, at their end
 unfoldable pub fields : {Again : List ℕ → ℕ → ℕ → Type 0} {known : ℕ} (ws : List ℕ) (at end : ℕ) → at + total ws ≡ end → Judge Again end end → Judge Again at known
-fields [] at end e x =
+fields {Again = Again} {known = known} [] at end e x =
     record {
       judge = x.judge;
       waited = λ s t h k. x.waited s t (omega arith) (omega arith);
       not_before = λ s h k c. let b = x.not_before s (omega arith) (omega arith) c in omega (arith, b);
       tells = λ s h k. x.tells s (omega arith) (omega arith);
     }
-fields (w ∷ ws) at end e x = ask w (fields ws (at + w) end (further at w (total ws) end e) x)
+fields {Again = Again} {known = known} (w ∷ ws) at end e x = ask w (fields {Again = Again} {known = at + w} ws (at + w) end (further at w (total ws) end e) x)
 
 -- in one test of the whole length, as readers ask it: the run is cut, or it goes on
 module _ (n end : ℕ) (r : Refusal) where

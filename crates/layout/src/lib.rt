@@ -1,4 +1,6 @@
 // Where a run of fields of fixed widths is cut.
+#![tactic(auto)]
+
 ghost use Rattle.std.specs.Prelude.{◌≡◌};
 ghost use Rattle.layout.specs.Layout.{cut_in};
 

@@ -2,6 +2,8 @@
 //
 // Each function hands a copy of the board behind the reference to the one that takes it by value, and a call that changes the board
 // stores the new one back.
+#![tactic(auto)]
+
 ghost use Rattle.board.specs.Board.{Upped, Downed, Reported, LookedUp};
 
 use board::{Board, Looked};

@@ -8,7 +8,6 @@
 use Rattle.std.specs.Prelude.{ℕ, List, [], ◌∷◌, ◌++◌}
 use Prim.Native.Char.{code}
 use Prim.Native.String.{String}
-use Prim.Native.String as String
 use Rattle.decimal.specs.Decimal.{decimal}
 use Rattle.listing.specs.declared.Answer.{Answer}
 

@@ -1,4 +1,6 @@
 // What a BMP stream holds, as text: a line for each message.
+#![tactic(auto)]
+
 ghost use Rattle.std.specs.Prelude.{◌≡◌, true, [], ◌∷◌, ◌++◌, ◌+◌, ◌≤◌, length, drop};
 ghost use Rattle.writing.specs.Write.{Wrote};
 ghost use Rattle.decimal.specs.Decimal.{decimal};
@@ -17,14 +19,14 @@ pub const LONGEST: usize = 65_536;
 pub const ENOUGH: usize = 196_656;
 
 // What a message is answered with: a number, or that it is skipped.
-#[derive(Drop)]
+#[derive(Clone, Copy)]
 enum Answer {
     Number(usize),
     Skip,
 }
 
 // What stands at a place of a stream: nothing more, the type, length and answer of a message, or why none is split off.
-#[derive(Drop)]
+#[derive(Clone, Copy)]
 enum Row {
     End,
     Message(usize, usize, Answer),

@@ -57,7 +57,9 @@ answer_complete RouteMonitoring s (of_a_peer h g joined x) n = from_peer Monitor
 answer_complete StatisticsReport s (of_a_peer h g joined x) n = from_peer Statistics s h g joined x n
 answer_complete PeerDownNotification s (of_a_peer h g joined x) n = from_peer Down s h g joined x n
 answer_complete PeerUpNotification s (of_a_peer h g joined x) n = from_peer Up s h g joined x n
+answer_complete InitiationMessage s (of_a_peer h g joined x) n = elim x [ ]
 answer_complete InitiationMessage s (initiation x) n = initiation_exactly.all_readings s n x
+answer_complete TerminationMessage s (of_a_peer h g joined x) n = elim x [ ]
 answer_complete TerminationMessage s (termination x) n = termination_exactly.all_readings s n x
 answer_complete RouteMirroringMessage s (of_a_peer h g joined x) n = from_peer Mirroring s h g joined x n
 

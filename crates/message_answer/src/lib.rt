@@ -1,4 +1,6 @@
 // The number that a whole message gets, of the first of its parts that is refused.
+#![tactic(auto)]
+
 ghost use Rattle.std.specs.Prelude.{◌≡◌};
 ghost use Rattle.route_monitoring.specs.Shown as MonitoringShown;
 ghost use Rattle.route_monitoring.specs.Read.{read_route_monitoring};
@@ -15,7 +17,7 @@ use per_peer_type::BmpPeerType;
 use route_monitoring::RouteMonitoringAnswer;
 
 // The bodies that stand behind a per-peer header.
-#[derive(Drop)]
+#[derive(Clone, Copy)]
 enum PeerBody {
     Monitoring,
     Statistics,

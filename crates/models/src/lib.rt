@@ -1,27 +1,29 @@
 // The values that BMP messages are made of, under the names that bgpkit-parser gives them where it has any, and the warnings.
+#![tactic(auto)]
+
 ghost use Rattle.std.specs.Prelude.{◌≡◌};
 ghost use Rattle.models.specs.Address.{same_address, same_afi, same_octets, unspecified};
 ghost use Rattle.models.specs.Warnings.{count_ones};
 
 // An AS number, a BGP identifier and a distinguisher have a type each, so that no call takes one for another.
-#[derive(Drop)]
+#[derive(Clone, Copy)]
 pub struct Asn(pub u32);
 
-#[derive(Drop)]
+#[derive(Clone, Copy)]
 pub struct BgpIdentifier(pub u32);
 
-#[derive(Drop)]
+#[derive(Clone, Copy)]
 pub struct PeerDistinguisher(pub u64);
 
 // The family of an address.
-#[derive(Drop)]
+#[derive(Clone, Copy)]
 pub enum Afi {
     Ipv4,
     Ipv6,
 }
 
 // How wide the AS numbers are that a peer's messages carry: the A flag of RFC 7854, section 4.2.
-#[derive(Drop)]
+#[derive(Clone, Copy)]
 pub enum AsnLength {
     Bits16,
     Bits32,
@@ -29,7 +31,7 @@ pub enum AsnLength {
 
 // The sixteen octets stand as in the field that they come from, and those that the family has no use for are zero: a per-peer
 // header has an IPv4 address in the last four (RFC 7854, section 4.2).
-#[derive(Drop)]
+#[derive(Clone, Copy)]
 pub struct IpAddr {
     pub octets: [u8; 16],
     pub afi: Afi,

@@ -1,4 +1,6 @@
 // Putting a number at a place of an output.
+#![tactic(auto)]
+
 ghost use Rattle.std.specs.Prelude.{◌≡◌};
 ghost use Rattle.wire.specs.Bytes.{be};
 ghost use Rattle.writing.specs.Write.{put_at};

@@ -1,4 +1,6 @@
 // The OpenBMP header that a collector puts before a raw BMP message: its record and its reader.
+#![tactic(auto)]
+
 ghost use Rattle.std.specs.Prelude.{◌≡◌, ◌≤◌, ◌+◌, length};
 ghost use Rattle.openbmp.specs.Shown.{shown, refused};
 ghost use Rattle.openbmp.specs.Read.{family_of, parts_of, cut, after_row_count, after_group_length, after_admin_length, after_type, after_flags, after_versions, after_magic, read_open_bmp_header};
@@ -7,7 +9,7 @@ use models::{Afi, IpAddr};
 use wire::{Refusal, View};
 
 // Beside the time stand the words that it comes from.
-#[derive(Drop)]
+#[derive(Clone, Copy)]
 pub struct OpenBmpHeader {
     pub major_version: u8,
     pub minor_version: u8,
@@ -23,7 +25,7 @@ pub struct OpenBmpHeader {
 }
 
 // The header and the place after it; where it is refused, the refusal and zeros.
-#[derive(Drop)]
+#[derive(Clone, Copy)]
 pub struct OpenBmpAnswer {
     pub refusal: Refusal,
     pub stop: usize,

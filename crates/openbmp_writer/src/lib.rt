@@ -1,4 +1,6 @@
 // Writing the OpenBMP header that a collector puts before a raw BMP message.
+#![tactic(auto)]
+
 ghost use Rattle.std.specs.Prelude.{◌≡◌, ◌≤◌, ◌<◌, ◌+◌, length};
 ghost use Rattle.writing.specs.Write.{put_at, Wrote};
 ghost use Rattle.openbmp.specs.Grammar.{flags_of};

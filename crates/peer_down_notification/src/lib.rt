@@ -1,4 +1,6 @@
 // The body of a BMP Peer Down notification (RFC 7854, section 4.9).
+#![tactic(auto)]
+
 ghost use Rattle.std.specs.Prelude.{◌≡◌, ◌≤◌};
 ghost use Rattle.wire.specs.Number as Number;
 ghost use Rattle.peer_down_notification.specs.declared.PeerDownAnswer.{PeerDownAnswer};
@@ -9,7 +11,7 @@ use cursor::{Cursor, ReadU8};
 use wire::{Refusal, View};
 
 // By their numbers from 0 on. `FsmEven` and `RemoteSystemsClosed` are spelt as the Rust spells them.
-#[derive(Drop)]
+#[derive(Clone, Copy)]
 pub enum PeerDownReason {
     Reserved,
     LocalSystemClosedNotificationPduFollows,
@@ -21,20 +23,20 @@ pub enum PeerDownReason {
 }
 
 // Data that is there and empty is not the same as no data.
-#[derive(Drop)]
+#[derive(Clone, Copy)]
 pub enum PeerDownData {
     Absent,
     Present(View),
 }
 
-#[derive(Drop)]
+#[derive(Clone, Copy)]
 pub struct PeerDownNotification {
     pub reason: PeerDownReason,
     pub data: PeerDownData,
 }
 
 // The notification and the place after it, or why there is none.
-#[derive(Drop)]
+#[derive(Clone, Copy)]
 pub enum PeerDownAnswer {
     Good(PeerDownNotification, usize),
     Refused(Refusal),

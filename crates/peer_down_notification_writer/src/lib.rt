@@ -1,4 +1,6 @@
 // Writing the body of a BMP Peer Down notification (RFC 7854, section 4.9).
+#![tactic(auto)]
+
 ghost use Rattle.std.specs.Prelude.{◌≡◌, length};
 ghost use Rattle.writing.specs.Write.{Wrote};
 ghost use Rattle.peer_down_notification.specs.Shown.{kind_of, is_present, view_of};

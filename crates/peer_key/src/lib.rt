@@ -1,6 +1,8 @@
 // Which peer a message speaks of: the whole key of a peer, made of a per-peer header (RFC 7854, section 4.2).
 //
 // Two customers may use one private address, and then the distinguisher alone tells their peers apart.
+#![tactic(auto)]
+
 ghost use Rattle.std.specs.Prelude.{◌≡◌};
 ghost use Rattle.peer_key.specs.Key.{key_of, same_key};
 
@@ -10,7 +12,7 @@ use per_peer_type::BmpPeerType;
 
 // The five parts of the key: the address is two of them, its sixteen octets as the header shows them and its family. The AS, the other
 // flags and the time are no part of it.
-#[derive(Drop)]
+#[derive(Clone, Copy)]
 pub struct PeerKey {
     pub peer_distinguisher: PeerDistinguisher,
     pub octets: [u8; 16],

@@ -3,7 +3,7 @@ use mathlib.Core.Path.{◌≡◌, refl, sym, ap, ◌∙◌, subst}
 use mathlib.Core.List.{List, []}
 use Prim.Native.Nat.{ℕ, ◌-◌, ◌≤◌, ◌<◌}
 use native.Mathlib.Omega.{arith}
-use lib.ListN.{length, take, drop, length-map}
+use lib.ListN.{length, take, drop}
 use Rattle.wire.specs.Bytes.{Bytes}
 use Rattle.wire.specs.Tlv.{Tlv, put_tlv, size_of}
 use Rattle.wire.specs.Walk.{stop, item, Out, refused}
@@ -12,19 +12,13 @@ use Rattle.cursor.specs.declared.Cursor.{Cursor}
 use Rattle.wire.proofs.Tlv.{tlv_length, tlv_there, tlv_join, tlv_rest, tlv_parts}
 use Rattle.wire.proofs.Walk.{Takes, Faults, Laws, Tails, onwards, TurnTo, turn_to, onwards_bad, resume_stop}
 use Rattle.per_peer_type.specs.declared.BmpPeerType.{BmpPeerType}
-use Rattle.peer_up_notification.specs.Grammar.{ReadTlv, GoodTail, places}
+use Rattle.peer_up_notification.specs.Grammar.{ReadTlv, GoodTail}
 use Rattle.peer_up_notification.specs.Shown.{Front, shown_tlv, message_of, good_answer}
 use Rattle.peer_up_notification.specs.Read.{step, step_at, kit, warnings_in, with_tlvs}
 use Rattle.peer_up_notification.specs.declared.PeerUpNotificationTlv.{PeerUpNotificationTlv}
 use Rattle.peer_up_notification.specs.declared.PeerUpAnswer.{PeerUpAnswer}
 use Rattle.peer_up_notification.specs.declared.Step.TheVariants.{Stop, Bad, Whole}
 use Rattle.peer_up_notification.proofs.Steps.{see, none_of, whole_of, Found, found, stopped, numbered, was_stop, was_bad, was_whole}
-use mir.Val.{Val}
-use denote.Laws.{Is}
-use denote.Struct.Laws as Struct
-use Rattle.peer_up_notification.specs.declared.PeerUpNotification.{PeerUpNotification}
-use Rattle.peer_up_notification.specs.contracts.PeerUpNotification as Notification
-use Rattle.peer_up_notification.proofs.PeerUpNotification.TheLaws as NotificationLaws
 
 pub faults : Faults kit
 faults s r e = numbered s r (see s) e
@@ -80,7 +74,3 @@ ends_well peer f n at table s p o a e h shown =
     let w = was_stop at p (step (drop at s)) h in
     shown ∙ ap (λ (k : ℕ). good_answer k (warnings_in peer (take n table)) (message_of f n table)) w.1
     ∙ ap (with_tlvs peer f) (sym (e ∙ resume_stop kit n at table s (length s - n) w.0))
-
--- how long the table of a notification is, from what owning one tells
-pub table_long : (m : PeerUpNotification) (vs : List Val) → Is Notification.the_row m vs → length m.tlvs ≡ places
-table_long m vs is = sym (length-map m.tlvs _) ∙ (Struct.owed Notification.the_type NotificationLaws.the_laws m vs is).1.1.1.1.1.0.1.0.1

@@ -1,4 +1,6 @@
 // The body of a BMP Peer Up notification (RFC 7854, section 4.10), behind the per-peer header.
+#![tactic(auto)]
+
 ghost use Rattle.std.specs.Prelude.{◌≡◌, not, ◌||◌, [], ◌+◌, ◌-◌, ◌≤◌, eqb, ltb, length};
 ghost use Rattle.wire.specs.Number as Number;
 ghost use Rattle.wire.specs.Bytes.{pick, num_at};
@@ -14,7 +16,7 @@ use tlv_head::TlvHead;
 use wire::{Need, Refusal, View};
 
 // 1 and 2 are the names of an Initiation message, whose numbers Peer Up shared before RFC 9736.
-#[derive(Drop)]
+#[derive(Clone, Copy)]
 pub enum PeerUpTlvType {
     String,
     SysDescr,
@@ -25,7 +27,7 @@ pub enum PeerUpTlvType {
 }
 
 // A TLV as the wire has it: its type, its length, and the place of its value.
-#[derive(Drop)]
+#[derive(Clone, Copy)]
 pub struct PeerUpNotificationTlv {
     pub kind: u16,
     pub info_len: u16,
@@ -33,7 +35,7 @@ pub struct PeerUpNotificationTlv {
 }
 
 // Both ends of the session, where its two OPENs stand, and the TLVs, of which the first count are used.
-#[derive(Drop)]
+#[derive(Clone, Copy)]
 pub struct PeerUpNotification {
     pub local_addr: IpAddr,
     pub local_port: u16,
@@ -45,7 +47,7 @@ pub struct PeerUpNotification {
 }
 
 // The tail starts at the stop: the walk reads no TLV that it does not keep.
-#[derive(Drop)]
+#[derive(Clone, Copy)]
 pub struct PeerUpAnswer {
     pub refusal: Refusal,
     pub stop: usize,
@@ -60,21 +62,21 @@ pub const OPENS_AT: usize = 20;
 const TABLE_NAME: u16 = 3;
 
 // What stands at the place of a BGP message: a fault, or the message and the cursor past it.
-#[derive(Drop)]
+#[derive(Clone, Copy)]
 enum Open {
     Broken(Refusal),
     Found(View, Cursor),
 }
 
 // The two messages and the place behind them, or why they are not there.
-#[derive(Drop)]
+#[derive(Clone, Copy)]
 enum BothOpens {
     Found(View, View, usize),
     Refused(Refusal),
 }
 
 // What stands at a place of the walk: its end with the stop place, a fault, or the three numbers of a TLV and the cursor past it.
-#[derive(Drop)]
+#[derive(Clone, Copy)]
 enum Step {
     Stop(usize),
     Bad(Refusal),
@@ -82,7 +84,7 @@ enum Step {
 }
 
 // What TLVs say of a table's name: that there is one, and that one has a bad length.
-#[derive(Drop)]
+#[derive(Clone, Copy)]
 struct TableNames {
     some: bool,
     bad: bool,

@@ -1,4 +1,6 @@
 // Writing the body of a BMP Peer Up notification (RFC 7854, section 4.10), behind the per-peer header.
+#![tactic(auto)]
+
 ghost use Rattle.std.specs.Prelude.{◌≡◌, ◌+◌, ◌≤◌, length};
 ghost use Rattle.std.proofs.lemmas.List.Edits.{sets};
 ghost use Rattle.writing.specs.Write.{Wrote};

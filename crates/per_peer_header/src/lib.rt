@@ -1,4 +1,6 @@
 // Reading the 42 bytes of a per-peer header (RFC 7854, section 4.2).
+#![tactic(auto)]
+
 ghost use Rattle.std.specs.Prelude.{◌≡◌, not, ◌&&◌, ◌≤◌, ◌+◌, eqb, length, take, drop};
 ghost use Rattle.wire.specs.Bytes.{pick};
 ghost use Rattle.layout.specs.Layout.{cut_in};
@@ -13,7 +15,7 @@ use per_peer_type::{BmpPeerType, PerPeerFlags};
 use wire::Refusal;
 
 // The header, the place after it and the warnings; where it is refused, the refusal and zeros.
-#[derive(Drop)]
+#[derive(Clone, Copy)]
 pub struct PerPeerHeaderAnswer {
     pub refusal: Refusal,
     pub stop: usize,

@@ -1,4 +1,6 @@
 // Writing the 42 bytes of a per-peer header (RFC 7854, section 4.2).
+#![tactic(auto)]
+
 ghost use Rattle.std.specs.Prelude.{◌≡◌, true, ◌≤◌, eqb, length};
 ghost use Rattle.std.proofs.lemmas.List.Edits.{sets};
 ghost use Rattle.models.specs.Address.{same_address};

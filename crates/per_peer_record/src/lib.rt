@@ -1,4 +1,6 @@
 // Whose numbers a message carries: the record of a per-peer header, and what is asked of it (RFC 7854, section 4.2).
+#![tactic(auto)]
+
 ghost use Rattle.std.specs.Prelude.{◌≡◌};
 ghost use Rattle.per_peer_record.specs.Header.{afi_of, asn_length_of, peer_time, same_header, stripped};
 
@@ -6,7 +8,7 @@ use models::{Afi, Asn, AsnLength, BgpIdentifier, IpAddr, PeerDistinguisher};
 use per_peer_type::{BmpPeerType, PerPeerFlags};
 
 // What tells apart two peers with one address is the type and the distinguisher. Beside the time stand the words that it comes from.
-#[derive(Drop)]
+#[derive(Clone, Copy)]
 pub struct BmpPerPeerHeader {
     pub peer_type: BmpPeerType,
     pub peer_flags: PerPeerFlags,
@@ -20,7 +22,7 @@ pub struct BmpPerPeerHeader {
 }
 
 // The time of a header, or that the router does not know it: both words zero (RFC 7854, section 4.2).
-#[derive(Drop)]
+#[derive(Clone, Copy)]
 pub enum PeerTime {
     Unavailable,
     At(f64),

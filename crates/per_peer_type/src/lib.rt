@@ -1,11 +1,13 @@
 // The type of a peer and its flags: the first two bytes of a per-peer header (RFC 7854, section 4.2; RFC 8671; RFC 9069).
+#![tactic(auto)]
+
 ghost use Rattle.std.specs.Prelude.{◌≡◌};
 ghost use Rattle.per_peer_type.specs.Peer.{type_of, kind_of, flag_l, flag_o, flag_f, address_family, asn_length};
 
 use models::{Afi, AsnLength};
 
 // The types of peers, by their numbers from 0 on.
-#[derive(Drop)]
+#[derive(Clone, Copy)]
 pub enum BmpPeerType {
     Global,
     RD,
@@ -44,7 +46,7 @@ pub fn type_of(kind: u8) -> BmpPeerType
 
 // The flags as they stand in the header, with the bits that have no meaning. What a bit means depends on the type of the peer: V, L, A
 // and O are of types 0 to 2, F is of a Loc-RIB.
-#[derive(Drop)]
+#[derive(Clone, Copy)]
 pub struct PerPeerFlags(pub u8);
 
 const ADDRESS_FAMILY_IPV6: u8 = 0b1000_0000;

@@ -1,11 +1,8 @@
 -- Runs of a piece put into the lent buffer, and what is then held. Assumes nothing.
 use mathlib.Core.Path.{◌≡◌, refl, sym, ap, ap₂, ◌∙◌, subst}
-use mathlib.Core.Bool.{true, false}
-use mathlib.Core.Logic.{◌⊎◌, inl, inr}
-use mathlib.Core.List.{List, [], ◌∷◌, ◌++◌, append_assoc}
+use mathlib.Core.Bool.{false}
+use mathlib.Core.List.{List, [], ◌++◌, append_assoc}
 use Prim.Native.Nat.{ℕ, ◌+◌, ◌-◌, ◌≤◌, ◌<◌}
-use denote.Enum.Declared.{tag_of}
-use types.Run.{OneOf}
 use native.Mathlib.Omega.{arith}
 use native.Mathlib.Nat.{add-zero, zero-add, sub-zero}
 use lib.ListN.{length, take, drop, length-append, length-drop}
@@ -17,20 +14,14 @@ use Rattle.receiver.specs.Receive.{room, longest_piece, judge_of, waiting, took_
 use Rattle.receiver.specs.Steps.{Held, taken_after, shorter, first_run}
 use Rattle.receiver.specs.declared.Outcome.{Outcome}
 use Rattle.receiver.specs.declared.Received.{Received}
-use Rattle.receiver.specs.contracts.Outcome.{the_type}
 use Rattle.receiver.proofs.Judging.{Judged, in_header, in_body, refused, too-big, message, judged}
 use Rattle.receiver.proofs.Runs.{grown, shorter_le, shorter_left, shorter_right, body_run, HeaderRun, header_run}
 use Rattle.receiver.proofs.First.{First, first}
 use Rattle.receiver.proofs.Missing.{fewer_wait}
 
--- ---- what the code learns where an outcome is none that waits: it has one of the other tags
-pub decided : (o : Outcome) → OneOf (1 ∷ 2 ∷ 3 ∷ []) (tag_of the_type o) → waiting o ≡ false
-decided (Outcome.Waiting missing) k = none k
-  where
-    none : ◌≡◌ {A = ℕ} 0 1 ⊎ (◌≡◌ {A = ℕ} 0 2 ⊎ ◌≡◌ {A = ℕ} 0 3) → true ≡ false
-    none (inl e) = absurd (omega (arith, e))
-    none (inr (inl e)) = absurd (omega (arith, e))
-    none (inr (inr e)) = absurd (omega (arith, e))
+-- ---- what the code learns where an outcome is none that waits
+pub decided : (o : Outcome) → ((m : ℕ) → o ≡ Outcome.Waiting m → ⊥) → waiting o ≡ false
+decided (Outcome.Waiting missing) k = absurd (k missing refl)
 decided (Outcome.Message header v) k = refl
 decided (Outcome.Skipped fields v) k = refl
 decided (Outcome.Refused r) k = refl

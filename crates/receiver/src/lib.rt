@@ -1,4 +1,6 @@
 // Messages out of a BMP session, however its bytes are cut into pieces: a lent buffer, and a small state by value.
+#![tactic(auto)]
+
 ghost use Rattle.std.specs.Prelude.{◌≡◌, [], ◌++◌, ◌+◌, ◌-◌, ◌≤◌, ◌<◌, length, take};
 ghost use Rattle.std.proofs.Math.Seq.{paste};
 ghost use Rattle.receiver.specs.Receive.{room, longest_piece, judge_of, holding, fresh, state_of, settled_by, taken, refused, receive_of, buffer_of};
@@ -16,7 +18,7 @@ pub const LONGEST_PIECE: usize = 4_096;
 
 // What the bytes since the last boundary are: the start of a message, which lacks so many bytes at least; a whole message, handed out or
 // skipped as the splitter does, with its view of the buffer; or why they are none.
-#[derive(Drop)]
+#[derive(Clone, Copy)]
 pub enum Outcome {
     Waiting(usize),
     Message(BmpCommonHeader, View),
@@ -25,14 +27,14 @@ pub enum Outcome {
 }
 
 // How many bytes at the start of the buffer are held, and the refusal that stands, whose number is 0 where none does.
-#[derive(Drop)]
+#[derive(Clone, Copy)]
 pub struct Receiver {
     pub held: usize,
     pub standing: Refusal,
 }
 
 // How many bytes of the piece were taken, what came of it, and the state for the next call.
-#[derive(Drop)]
+#[derive(Clone, Copy)]
 pub struct Received {
     pub took: usize,
     pub outcome: Outcome,
@@ -40,7 +42,7 @@ pub struct Received {
 }
 
 // What the bytes lack that are held, or why the call is refused at once.
-#[derive(Drop)]
+#[derive(Clone, Copy)]
 enum Entered {
     Waiting(usize),
     Refused(Refusal),

@@ -1,4 +1,6 @@
 // The body of a BMP Route Mirroring message (RFC 7854, section 4.7), behind the per-peer header.
+#![tactic(auto)]
+
 ghost use Rattle.std.specs.Prelude.{◌≡◌, ◌+◌, ◌≤◌, length, drop};
 ghost use Rattle.wire.specs.Number as Number;
 ghost use Rattle.wire.specs.Bytes.{num_at};
@@ -9,20 +11,20 @@ use cursor::{Cursor, ReadU16};
 use tlv_head::TlvHead;
 use wire::{Need, Refusal, View};
 
-#[derive(Drop)]
+#[derive(Clone, Copy)]
 pub enum RouteMirroringInfo {
     ErroredPdu,
     MessageLost,
 }
 
-#[derive(Drop)]
+#[derive(Clone, Copy)]
 pub enum RouteMirroringValue {
     BgpMessage(View),
     Information(RouteMirroringInfo),
 }
 
 // A TLV as the wire has it: its type, its length, and the place of a BGP message or the code of information.
-#[derive(Drop)]
+#[derive(Clone, Copy)]
 pub struct RouteMirroringTlv {
     pub kind: u16,
     pub info_len: u16,
@@ -30,14 +32,14 @@ pub struct RouteMirroringTlv {
 }
 
 // The TLVs, of which the first count are used; the others are zero.
-#[derive(Drop)]
+#[derive(Clone, Copy)]
 pub struct RouteMirroring {
     pub tlvs: [RouteMirroringTlv; wire::TLV_PLACES],
     pub count: usize,
 }
 
 // The tail starts at the stop: the walk reads no TLV that it does not keep.
-#[derive(Drop)]
+#[derive(Clone, Copy)]
 pub struct RouteMirroringAnswer {
     pub refusal: Refusal,
     pub stop: usize,
@@ -45,7 +47,7 @@ pub struct RouteMirroringAnswer {
 }
 
 // What stands at a place of the walk: its end with the stop place, a fault, or the three numbers of a TLV and the cursor past it.
-#[derive(Drop)]
+#[derive(Clone, Copy)]
 enum Step {
     Stop(usize),
     Bad(Refusal),

@@ -6,10 +6,7 @@ use Prim.Native.Nat.{ℕ, zero, suc, ◌+◌, ◌≤◌, ◌<◌}
 use native.Mathlib.Omega.{arith}
 use borrow.Author.Tests.{leb-true, le-leb, eqb-true, eq-eqb}
 use lib.Dec.{leb, eqb}
-use lib.ListN.{length, length-map, length-append}
-use mir.Val.{Val}
-use denote.Laws.{Is}
-use denote.Struct.Laws as Struct
+use lib.ListN.{length, length-append}
 use Rattle.wire.specs.Bytes.{pick, be}
 use Rattle.wire.specs.declared.View.{View}
 use Rattle.writing.proofs.Tests.{both}
@@ -17,19 +14,12 @@ use Rattle.tlv_table.specs.Tlvs.{entry_writable, one_tlv}
 use Rattle.tlv_table.specs.declared.TlvValue.TheVariants.{Part}
 use Rattle.tlv_table.specs.declared.TlvEntry.{TlvEntry}
 use Rattle.tlv_table.proofs.Table.{Entries}
-use Rattle.route_mirroring.specs.Grammar.{Tlv, bgp_message, information, put, places}
+use Rattle.route_mirroring.specs.Grammar.{Tlv, bgp_message, information, put}
 use Rattle.route_mirroring.specs.Shown.{value_of}
 use Rattle.route_mirroring_writer.specs.Write.{value_part, known, has_header, headed_writable, tlv_writable, writer, value_entry, entry_of}
 use Rattle.route_mirroring.specs.declared.RouteMirroringValue.{RouteMirroringValue}
 use Rattle.route_mirroring.specs.declared.RouteMirroringValue.TheVariants.{BgpMessage, Information}
 use Rattle.route_mirroring.specs.declared.RouteMirroringTlv.{RouteMirroringTlv}
-use Rattle.route_mirroring.specs.declared.RouteMirroring.{RouteMirroring}
-use Rattle.route_mirroring.specs.contracts.RouteMirroring as Message
-use Rattle.route_mirroring.proofs.RouteMirroring.TheLaws as MessageLaws
-
--- how long the table of a message is, from what owning one tells
-pub table_long : (m : RouteMirroring) (vs : List Val) → Is Message.the_row m vs → length m.tlvs ≡ places
-table_long m vs is = sym (length-map m.tlvs _) ∙ (Struct.owed Message.the_type MessageLaws.the_laws m vs is).0.1.0.1
 
 -- ---- what `tlv_writable` asks: a type and a code that the reader shows, and a value that fits
 pub record Known (kind number : ℕ) : Type 0 where

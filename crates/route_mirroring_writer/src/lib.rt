@@ -1,4 +1,6 @@
 // Writing the body of a BMP Route Mirroring message (RFC 7854, section 4.7), behind the per-peer header.
+#![tactic(auto)]
+
 ghost use Rattle.std.specs.Prelude.{◌≡◌, length};
 ghost use Rattle.writing.specs.Write.{Wrote};
 ghost use Rattle.route_mirroring_writer.specs.Write.{known, tlv_writable, has_header, entry_of, bytes_of, writable};

@@ -1,4 +1,6 @@
 // The body of a BMP Route Monitoring message (RFC 7854, section 4.6).
+#![tactic(auto)]
+
 ghost use Rattle.std.specs.Prelude.{◌≡◌};
 ghost use Rattle.route_monitoring.specs.Warnings.{warnings_of};
 ghost use Rattle.route_monitoring.specs.Read.{read_route_monitoring};
@@ -7,13 +9,13 @@ use models::AsnLength;
 use per_peer_type::BmpPeerType;
 use wire::{Need, Refusal, View};
 
-#[derive(Drop)]
+#[derive(Clone, Copy)]
 pub struct RouteMonitoring {
     pub bgp_message: View,
 }
 
 // The message, the place after it and the warnings, or why there is none.
-#[derive(Drop)]
+#[derive(Clone, Copy)]
 pub enum RouteMonitoringAnswer {
     Good(RouteMonitoring, usize, u32),
     Refused(Refusal),

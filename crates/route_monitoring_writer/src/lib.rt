@@ -1,4 +1,6 @@
 // Writing the body of a BMP Route Monitoring message (RFC 7854, section 4.6).
+#![tactic(auto)]
+
 ghost use Rattle.std.specs.Prelude.{◌≡◌, length};
 ghost use Rattle.writing.specs.Write.{Wrote};
 ghost use Rattle.route_monitoring_writer.specs.Write.{view_writable, writable, bytes_of};

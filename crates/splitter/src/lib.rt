@@ -1,4 +1,6 @@
 // One message off the front of a BMP stream.
+#![tactic(auto)]
+
 ghost use Rattle.std.specs.Prelude.{◌≡◌, ◌≤◌};
 ghost use Rattle.splitter.specs.declared.SplitAnswer.{SplitAnswer};
 ghost use Rattle.splitter.specs.Shown.{handed_out};
@@ -11,7 +13,7 @@ use wire::{Need, Refusal, View};
 
 // The first message: its header and the view of the whole of it; of a type that RFC 7854 does not have it is skipped, with the
 // header's fields in place of the header. Or why there is none.
-#[derive(Drop)]
+#[derive(Clone, Copy)]
 pub enum SplitAnswer {
     Message(BmpCommonHeader, View),
     Skipped(CommonFields, View),

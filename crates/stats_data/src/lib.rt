@@ -1,4 +1,6 @@
 // The value of a statistics record (RFC 7854, section 4.8), by its length alone: the type has no say.
+#![tactic(auto)]
+
 ghost use Rattle.std.specs.Prelude.{◌≡◌, ◌-◌, ◌≤◌, length};
 ghost use Rattle.stats_data.specs.Shown.{data_of};
 ghost use Rattle.stats_data.specs.Read.{read_data};
@@ -7,7 +9,7 @@ use cursor::Cursor;
 use wire::{Need, Refusal, View};
 
 // What a counter says, by the length of its value: 4, 8, or 11 for an AFI, a SAFI and a gauge; of any other length where it stands.
-#[derive(Drop)]
+#[derive(Clone, Copy)]
 pub enum StatsData {
     Counter(u32),
     Gauge(u64),
@@ -16,7 +18,7 @@ pub enum StatsData {
 }
 
 // The AFI, the SAFI and the number, zero where the form has none, and the cursor past them; or the Cut of the whole value at its start.
-#[derive(Drop)]
+#[derive(Clone, Copy)]
 pub enum ReadData {
     Good(u16, u16, u64, Cursor),
     Cut(Refusal),

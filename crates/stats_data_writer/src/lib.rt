@@ -1,4 +1,6 @@
 // Writing the value of a statistics record (RFC 7854, section 4.8).
+#![tactic(auto)]
+
 ghost use Rattle.std.specs.Prelude.{◌≡◌};
 ghost use Rattle.wire.specs.View.{view};
 ghost use Rattle.writing.specs.Write.{put_at};

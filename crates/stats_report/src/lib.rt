@@ -1,4 +1,6 @@
 // The body of a BMP Statistics Report (RFC 7854, section 4.8).
+#![tactic(auto)]
+
 ghost use Rattle.std.specs.Prelude.{◌≡◌};
 ghost use Rattle.stats_type.specs.Shown.{type_of};
 ghost use Rattle.stats_report.specs.Shown.{counter_of, data_in, refused_answer};
@@ -14,7 +16,7 @@ use wire::Refusal;
 pub const COUNTER_PLACES: usize = 64;
 
 // The counters, how many of them there are, and the count that the report says.
-#[derive(Drop)]
+#[derive(Clone, Copy)]
 pub struct StatsReport {
     pub counters: [StatCounter; COUNTER_PLACES],
     pub count: usize,
@@ -23,7 +25,7 @@ pub struct StatsReport {
 
 // A record as the wire has it. The length alone says the form: 4 is a counter, 8 a gauge, 11 an AFI, a SAFI and a gauge, and of any
 // other the value is the place of its bytes; parts that the form does not use are zero.
-#[derive(Drop)]
+#[derive(Clone, Copy)]
 pub struct StatCounter {
     pub kind: u16,
     pub stat_len: u16,
@@ -33,7 +35,7 @@ pub struct StatCounter {
 }
 
 // The stop is where the last counter ends, and the tail starts.
-#[derive(Drop)]
+#[derive(Clone, Copy)]
 pub struct StatsAnswer {
     pub refusal: Refusal,
     pub stop: usize,
@@ -41,14 +43,14 @@ pub struct StatsAnswer {
 }
 
 // The count in front of the records and the cursor behind it, or why there is none.
-#[derive(Drop)]
+#[derive(Clone, Copy)]
 enum Count {
     Said(u32, Cursor),
     Refused(Refusal),
 }
 
 // What stands at a place of the walk: a field that lacks bytes, or the five numbers of a counter and the cursor past it.
-#[derive(Drop)]
+#[derive(Clone, Copy)]
 enum Step {
     Bad(Refusal),
     Whole(u16, u16, u16, u16, u64, Cursor),

@@ -8,10 +8,7 @@ use native.Mathlib.Omega.{arith}
 use native.Mathlib.Nat.{mod-eq_of_lt}
 use borrow.Author.Tests.{ltb-true, ltb-false, eqb-true, eqb-false, lt-ltb, eq-eqb, ne_eqb}
 use lib.Dec.{ltb, eqb}
-use lib.ListN.{length, length-map}
-use mir.Val.{Val}
-use denote.Laws.{Is}
-use denote.Struct.Laws as Struct
+use lib.ListN.{length}
 use Rattle.wire.specs.Bytes.{pick, be}
 use Rattle.writing.specs.Table.{all_ok, sizes}
 use Rattle.writing.proofs.Tests.{both, past}
@@ -30,12 +27,6 @@ use Rattle.stats_report.specs.Shown.{data_in}
 use Rattle.stats_report.specs.declared.StatCounter.{StatCounter}
 use Rattle.stats_report_writer.specs.Write.{plain, counter_writable, numbered, writer, one_counter, kept, bytes_of, writable}
 use Rattle.stats_report.specs.declared.StatsReport.{StatsReport}
-use Rattle.stats_report.specs.contracts.StatsReport as Report
-use Rattle.stats_report.proofs.StatsReport.TheLaws as ReportLaws
-
--- how long the table of a report is, from what owning one tells
-pub table_long : (m : StatsReport) (vs : List Val) → Is Report.the_row m vs → length m.counters ≡ places
-table_long m vs is = sym (length-map m.counters _) ∙ (Struct.owed Report.the_type ReportLaws.the_laws m vs is).0.1.0.1
 
 -- ---- the data of an entry, by its length
 data Formed (t : StatCounter) : StatsData → Type 0 where

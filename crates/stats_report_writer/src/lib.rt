@@ -1,4 +1,6 @@
 // Writing the body of a BMP Statistics Report (RFC 7854, section 4.8).
+#![tactic(auto)]
+
 ghost use Rattle.std.specs.Prelude.{◌≡◌, ◌+◌, ◌≤◌, length};
 ghost use Rattle.writing.specs.Write.{put_at, Wrote};
 ghost use Rattle.stats_report_writer.specs.Write.{plain, counter_writable, one_counter, bytes_of, writable};

@@ -1,8 +1,10 @@
 // The types of statistics (RFC 7854, section 4.8; 14 to 17 RFC 8671, section 6.2; from 18 on the registry of IANA).
+#![tactic(auto)]
+
 ghost use Rattle.std.specs.Prelude.{◌≡◌, ◌≤◌};
 ghost use Rattle.stats_type.specs.Shown.{type_of, kind_of};
 
-#[derive(Drop)]
+#[derive(Clone, Copy)]
 pub enum StatType {
     PrefixesRejectedByInboundPolicy,
     DuplicatePrefixAdvertisements,

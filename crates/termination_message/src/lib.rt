@@ -1,4 +1,6 @@
 // The body of a BMP Termination message (RFC 7854, section 4.5).
+#![tactic(auto)]
+
 ghost use Rattle.std.specs.Prelude.{◌≡◌, ◌≤◌, length};
 ghost use Rattle.wire.specs.Number as Number;
 ghost use Rattle.termination_message.specs.Shown.{type_of, reason_of, code_of, value_of, zero_tlv, refused_answer};
@@ -8,13 +10,13 @@ use cursor::{Cursor, ReadU16};
 use tlv_head::TlvHead;
 use wire::{Refusal, View};
 
-#[derive(Drop)]
+#[derive(Clone, Copy)]
 pub enum TerminationTlvType {
     String,
     Reason,
 }
 
-#[derive(Drop)]
+#[derive(Clone, Copy)]
 pub enum TerminationReason {
     AdministrativelyClosed,
     UnspecifiedReason,
@@ -23,7 +25,7 @@ pub enum TerminationReason {
     PermanentlyAdministrativelyClosed,
 }
 
-#[derive(Drop)]
+#[derive(Clone, Copy)]
 pub enum TerminationTlvValue {
     String(View),
     Reason(TerminationReason),
@@ -31,7 +33,7 @@ pub enum TerminationTlvValue {
 
 // A TLV as the wire has it: its type, its length, and the place of a String's value or the code of a Reason. A Reason's length is
 // kept as it stands: the reader takes two bytes of value whatever it holds.
-#[derive(Drop)]
+#[derive(Clone, Copy)]
 pub struct TerminationTlv {
     pub kind: u16,
     pub info_len: u16,
@@ -39,14 +41,14 @@ pub struct TerminationTlv {
 }
 
 // The TLVs, of which the first count are used; the others are zero.
-#[derive(Drop)]
+#[derive(Clone, Copy)]
 pub struct TerminationMessage {
     pub tlvs: [TerminationTlv; wire::TLV_PLACES],
     pub count: usize,
 }
 
 // The stop is what the Rust has consumed, the tail starts where the last TLV ends: after an oversized length they differ by 4.
-#[derive(Drop)]
+#[derive(Clone, Copy)]
 pub struct TerminationAnswer {
     pub refusal: Refusal,
     pub stop: usize,
@@ -55,7 +57,7 @@ pub struct TerminationAnswer {
 }
 
 // What stands at a place of the walk: its end with the stop place, a fault, or the three numbers of a TLV and the cursor past it.
-#[derive(Drop)]
+#[derive(Clone, Copy)]
 enum Step {
     Stop(usize),
     Bad(Refusal),

@@ -1,15 +1,12 @@
 -- What the writing kit asks of a Termination body. Assumes nothing.
-use mathlib.Core.Path.{◌≡◌, refl, sym, ap, ◌∙◌}
+use mathlib.Core.Path.{◌≡◌, refl, ap}
 use mathlib.Core.Bool.{Bool, true, false}
 use mathlib.Core.List.{List, [], ◌∷◌, ◌++◌}
 use Prim.Native.Nat.{ℕ, ◌+◌, ◌/◌, ◌%◌, ◌≤◌}
 use native.Mathlib.Omega.{arith}
 use borrow.Author.Tests.{le-leb, le-ltb, eq-eqb, ne_eqb, eqb-true, eqb-false}
 use lib.Dec.{eqb}
-use lib.ListN.{length, length-map}
-use mir.Val.{Val}
-use denote.Laws.{Is}
-use denote.Struct.Laws as Struct
+use lib.ListN.{length}
 use Rattle.wire.specs.Bytes.{pick, be}
 use Rattle.wire.specs.View.{viewed}
 use Rattle.wire.proofs.Tlv.{put_tlv_long, coded_length}
@@ -18,18 +15,11 @@ use Rattle.tlv_table.specs.declared.TlvValue.TheVariants.{Part, Number}
 use Rattle.tlv_table.specs.declared.TlvEntry.{TlvEntry}
 use Rattle.tlv_table.proofs.Table.{Entries}
 use Rattle.tlv_table.proofs.Written.{Before, before_of, before_from}
-use Rattle.termination_message.specs.Grammar.{Tlv, string, reason, put, places}
+use Rattle.termination_message.specs.Grammar.{Tlv, string, reason, put}
 use Rattle.termination_message.specs.Shown.{text_of}
 use Rattle.termination_message_writer.specs.Write.{part_of, reason_writable, tlv_writable, writer, entry_of}
 use Rattle.termination_message.specs.declared.TerminationTlv.{TerminationTlv}
-use Rattle.termination_message.specs.declared.TerminationMessage.{TerminationMessage}
 use Rattle.termination_message_writer.proofs.Unwritable.{reason-writable}
-use Rattle.termination_message.specs.contracts.TerminationMessage as Message
-use Rattle.termination_message.proofs.TerminationMessage.TheLaws as MessageLaws
-
--- how long the table of a message is, from what owning one tells
-pub table_long : (m : TerminationMessage) (vs : List Val) → Is Message.the_row m vs → length m.tlvs ≡ places
-table_long m vs is = sym (length-map m.tlvs _) ∙ (Struct.owed Message.the_type MessageLaws.the_laws m vs is).0.1.0.1
 
 -- ---- the item of an entry
 pub part_text : (b : List ℕ) (t : TerminationTlv) → t.kind ≡ 0 → part_of b t ≡ string t.info_len (viewed b (text_of t))

@@ -1,4 +1,6 @@
 // Writing the body of a BMP Termination message (RFC 7854, section 4.5).
+#![tactic(auto)]
+
 ghost use Rattle.std.specs.Prelude.{◌≡◌, length};
 ghost use Rattle.writing.specs.Write.{Wrote};
 ghost use Rattle.termination_message_writer.specs.Write.{tlv_writable, entry_of, bytes_of, writable};

@@ -1,4 +1,6 @@
 // The time that headers carry in two words, as one f64.
+#![tactic(auto)]
+
 ghost use Rattle.std.specs.Prelude.{◌≡◌};
 ghost use Rattle.times.specs.Time.{is_timestamp, time_of};
 

@@ -1,4 +1,6 @@
 // The head of a TLV, its type and its length: what every walk over TLVs reads first.
+#![tactic(auto)]
+
 ghost use Rattle.std.specs.Prelude.{◌≡◌};
 ghost use Rattle.tlv_head.specs.Head.{head_at};
 
@@ -8,7 +10,7 @@ use cursor::Cursor;
 pub const HEAD: usize = 4;
 
 // The type, the length and the cursor behind them, where the value starts; or that too few bytes are left.
-#[derive(Drop)]
+#[derive(Clone, Copy)]
 pub enum TlvHead {
     Found(u16, u16, Cursor),
     Short,

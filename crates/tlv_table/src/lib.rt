@@ -1,4 +1,6 @@
 // Judging, measuring and putting one TLV: what the writers of all bodies with a list of TLVs share.
+#![tactic(auto)]
+
 ghost use Rattle.std.specs.Prelude.{◌≡◌, ◌+◌, ◌-◌, ◌≤◌, leb, length};
 ghost use Rattle.writing.specs.Write.{put_at};
 ghost use Rattle.tlv_table.specs.Tlvs.{value_bytes, entry_writable, entry_writable_before, one_tlv};
@@ -6,14 +8,14 @@ ghost use Rattle.tlv_table.specs.Tlvs.{value_bytes, entry_writable, entry_writab
 use wire::View;
 
 // A value: what a view shows of the buffer, or a number of two bytes.
-#[derive(Drop)]
+#[derive(Clone, Copy)]
 pub enum TlvValue {
     Part(View),
     Number(u16),
 }
 
 // A TLV to be written: its type, its length, and its value.
-#[derive(Drop)]
+#[derive(Clone, Copy)]
 pub struct TlvEntry {
     pub kind: u16,
     pub size: u16,

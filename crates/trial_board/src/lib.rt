@@ -1,5 +1,6 @@
-// The functions of `lent_board`, each lent a board that stands in a local. Their parameters are plain, so whoever calls them needs no
-// proof by hand.
+// The functions of `lent_board`, each lent a board that stands in a local: whoever calls them hands over a board by value, and gets it back.
+#![tactic(auto)]
+
 ghost use Rattle.board.specs.Board.{Upped, Downed, Reported, LookedUp};
 
 use board::{Board, Looked, Updated};

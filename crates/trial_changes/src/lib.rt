@@ -1,5 +1,7 @@
 // What is done to a record before it is written, so that each item of the lists of what is not writable is met by a record that no reader shows
 // (docs/REPLAY.md, "Records"). What a change does not concern it leaves as it is.
+#![tactic(auto)]
+
 use common_header::BmpCommonHeader;
 use initiation_message::{InitiationMessage, InitiationTlv};
 use models::{Afi, Asn, IpAddr};

@@ -1,5 +1,7 @@
 // The entries of records' tables, one by one, and the equality of two headers: what each answers as plain numbers, with the form that they are printed by
 // (docs/REPLAY.md, "Forms").
+#![tactic(auto)]
+
 ghost use Rattle.std.specs.Prelude.{◌<◌};
 
 use initiation_message::{InitiationTlv, InitiationTlvType};

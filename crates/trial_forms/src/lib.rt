@@ -1,6 +1,8 @@
 // The kinds of records, what readers are told beside the bytes, and answers as text by forms: a form is text with marks, each of which takes the next of
 // a list of numbers (docs/REPLAY.md, "Forms"). It is put piece by piece into a lent buffer, and each put answers the place after its piece; a
 // piece that does not fit changes nothing.
+#![tactic(auto)]
+
 ghost use Rattle.std.specs.Prelude.{◌≡◌, ◌<◌, ◌≤◌};
 ghost use Rattle.writing.specs.Write.{put_at};
 ghost use Rattle.decimal.specs.Decimal.{decimal};
@@ -13,7 +15,7 @@ use per_peer_type::BmpPeerType;
 use wire::{Refusal, View};
 
 // What is read and written.
-#[derive(Drop)]
+#[derive(Clone, Copy)]
 pub enum Kind {
     Common,
     PerPeer,
@@ -46,7 +48,7 @@ pub fn kind_at(i: usize) -> Kind
 }
 
 // What readers are told beside the bytes. Where one takes no such argument, it has no say.
-#[derive(Drop)]
+#[derive(Clone, Copy)]
 pub struct Arguments {
     pub afi: Afi,
     pub asn_len: AsnLength,
@@ -54,7 +56,7 @@ pub struct Arguments {
 }
 
 // The number of a form, the numbers that go into it, and how many entries of a table follow it.
-#[derive(Drop)]
+#[derive(Clone, Copy)]
 pub struct Shown {
     pub form: usize,
     pub count: usize,

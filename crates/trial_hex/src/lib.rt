@@ -1,4 +1,6 @@
 // Bytes from text: digits, and digits that repeat (docs/REPLAY.md, "Input").
+#![tactic(auto)]
+
 ghost use Rattle.std.specs.Prelude.{◌≡◌, ◌+◌, ◌/◌, ◌≤◌, ◌<◌, length, drop};
 ghost use Rattle.std.proofs.lemmas.List.Edits.{sets};
 ghost use Rattle.trial_hex.specs.Hex.{place_of, digit_value, all_digits, are_digits, byte_at, repeated, with_digit, times_from, part_times, part_digits, part_length, part_bytes, first_part, parts, measured, all_bytes, is_hyphen, unhexed, unhexed_into, untouched};
@@ -11,7 +13,7 @@ const MOST_CHARACTERS: usize = 131_072;
 const MOST_TIMES: usize = 1_048_577;
 
 // How many bytes a text writes, or that it is none.
-#[derive(Drop)]
+#[derive(Clone, Copy)]
 pub enum Unhexed {
     Bytes(usize),
     Bad,

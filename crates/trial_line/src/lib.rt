@@ -1,4 +1,6 @@
 // A line for the programs that take lines, taken apart (docs/REPLAY.md, "Input").
+#![tactic(auto)]
+
 ghost use Rattle.std.specs.Prelude.{◌≡◌, ◌*◌, ◌/◌, ◌≤◌, length};
 ghost use Rattle.wire.specs.View.{viewed};
 ghost use Rattle.trial_hex.specs.Hex.{unhexed, unhexed_into};
@@ -11,7 +13,7 @@ use trial_forms::{Arguments, Kind};
 use trial_hex::Unhexed;
 use wire::View;
 
-#[derive(Drop)]
+#[derive(Clone, Copy)]
 pub enum Verb {
     Read(Kind),
     Rewrite(Kind),
@@ -21,14 +23,14 @@ pub enum Verb {
 }
 
 // A verb, its arguments, and where in the line the text of its bytes stands.
-#[derive(Drop)]
+#[derive(Clone, Copy)]
 pub struct Command {
     pub verb: Verb,
     pub arguments: Arguments,
     pub text: View,
 }
 
-#[derive(Drop)]
+#[derive(Clone, Copy)]
 enum Line {
     Empty,
     Bad,
@@ -36,20 +38,20 @@ enum Line {
 }
 
 // What a line asks for: nothing, or a command with how many bytes its text writes.
-#[derive(Drop)]
+#[derive(Clone, Copy)]
 pub enum Asked {
     Nothing,
     Bad,
     Good(Command, usize),
 }
 
-#[derive(Drop)]
+#[derive(Clone, Copy)]
 enum FoundReader {
     Reader(Kind),
     Nothing,
 }
 
-#[derive(Drop)]
+#[derive(Clone, Copy)]
 enum FoundArguments {
     Arguments(Arguments),
     Nothing,

@@ -1,5 +1,7 @@
 // The ten readers behind one call, and the splitter: what each answers as plain numbers, with the form that they are printed by. Those of a
 // refusal are its number, its place and what is missing, those of a good answer the stop, the tail's start and the fields.
+#![tactic(auto)]
+
 use common_header::{BmpCommonHeader, CommonHeaderAnswer};
 use models::{Afi, AsnLength};
 use openbmp::OpenBmpHeader;

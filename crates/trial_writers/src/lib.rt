@@ -1,4 +1,6 @@
 // The ten writers behind one call: a record is read, changed or left as it is, and written.
+#![tactic(auto)]
+
 use common_header::CommonHeaderAnswer;
 use peer_down_notification::PeerDownAnswer;
 use route_monitoring::RouteMonitoringAnswer;

@@ -1,11 +1,10 @@
 -- What a slice and an array of u8 hold are bytes: from what their types say of each element to what the theorems ask of a list. Assumes nothing.
 use Prim.Native.Nat.{ℕ, suc, ◌<◌}
-use mathlib.Core.List.{List, [], ◌∷◌, map}
+use mathlib.Core.List.{List, [], ◌∷◌}
 use denote.Array.{each}
-use denote.Plain.{UInt}
+use denote.Builtin.{u8}
 use denote.Shadow.{shadow}
 use lib.ListN.{get_or}
-use mir.Syntax.{w8}
 use mir.Val.{Val}
 use Rattle.wire.specs.Bytes.{Bytes, none, more}
 
@@ -15,7 +14,7 @@ slice_bytes [] h = none
 slice_bytes (b ∷ l) h = more (h 0) (slice_bytes l (λ i. h (suc i)))
 
 -- a `[u8; n]`, by value: each of its elements has its value in the machine
-pub array_bytes : (octets : List ℕ) (values : List Val) → shadow (each ℕ (UInt w8).own_val (map (λ b. b) octets) values) → Bytes octets
+pub array_bytes : (octets : List ℕ) (values : List Val) → shadow (each u8.Denot u8.own_val octets values) → Bytes octets
 array_bytes [] [] s = none
 array_bytes [] (v ∷ vs) s = none
 array_bytes (b ∷ l) [] s = absurd s

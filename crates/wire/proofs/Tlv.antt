@@ -7,7 +7,7 @@ use native.Mathlib.Omega.{arith}
 use borrow.Author.Tests.{le-leb, lt-leb}
 use lib.ListN.{length, take, drop, length-append, length-drop}
 use lib.Seq.{take_at, drop_at, drop-drop, length-take-le}
-use Rattle.wire.specs.Bytes.{be, value, num_at, Bytes}
+use Rattle.wire.specs.Bytes.{be, num_at, Bytes}
 use Rattle.wire.specs.View.{view, viewed}
 use Rattle.wire.specs.Tlv.{Tlv, put_tlv, size_of, GoodTlv, Tail, short, oversized, put_tail, GoodTail}
 use Rattle.wire.specs.TlvAt.{tlv_of, tail_of, stop_at, unread}

@@ -1,4 +1,6 @@
 // What every reader and writer of BMP shares: the numbers of refusals, what a need of bytes gets, and views.
+#![tactic(auto)]
+
 ghost use Rattle.std.specs.Prelude.{◌≡◌, ◌-◌, length};
 ghost use Rattle.wire.specs.Refusal.{refusal, no_refusal, need_at};
 ghost use Rattle.wire.specs.View.{inside, no_view, viewed};
@@ -64,7 +66,7 @@ pub const TLV_PLACES: usize = 32;
 
 // A number of the list above, the place of the field at fault, and how many bytes it lacks, which is 0 but in a Cut; all are 0 in a
 // good answer.
-#[derive(Drop)]
+#[derive(Clone, Copy)]
 pub struct Refusal {
     pub number: u8,
     pub place: usize,
@@ -72,14 +74,14 @@ pub struct Refusal {
 }
 
 // Whether the bytes that a field needs are there, or the Cut that says they are not.
-#[derive(Drop)]
+#[derive(Clone, Copy)]
 pub enum Need {
     Met,
     Cut(Refusal),
 }
 
 // A place and a length in a buffer.
-#[derive(Drop)]
+#[derive(Clone, Copy)]
 pub struct View {
     pub place: usize,
     pub length: usize,

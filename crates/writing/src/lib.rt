@@ -1,11 +1,13 @@
 // Writing bytes: what every writer of BMP shares.
+#![tactic(auto)]
+
 ghost use Rattle.std.specs.Prelude.{◌≡◌};
 ghost use Rattle.writing.specs.Write.{put_at, tlv_fits, write_answer};
 
 use wire::{Refusal, View};
 
 // What a writer answers: the length written, or why it wrote nothing.
-#[derive(Drop)]
+#[derive(Clone, Copy)]
 pub enum WriteAnswer {
     Written(usize),
     Refused(Refusal),

@@ -1,0 +1,174 @@
+use Rattle.stats_type.specs.Shown.{kind_of}
+use Rattle.stats_type.proofs.kind_of.Goals as goal
+
+pub returns-in-PrefixesRejectedByInboundPolicy : goal.returns-in-PrefixesRejectedByInboundPolicy
+unfolding kind_of
+returns-in-PrefixesRejectedByInboundPolicy c = rw c.in-PrefixesRejectedByInboundPolicy.is
+
+pub returns-in-DuplicatePrefixAdvertisements : goal.returns-in-DuplicatePrefixAdvertisements
+unfolding kind_of
+returns-in-DuplicatePrefixAdvertisements c = rw c.in-DuplicatePrefixAdvertisements.is
+
+pub returns-in-DuplicateWithdrawnPrefixes : goal.returns-in-DuplicateWithdrawnPrefixes
+unfolding kind_of
+returns-in-DuplicateWithdrawnPrefixes c = rw c.in-DuplicateWithdrawnPrefixes.is
+
+pub returns-in-UpdatesInvalidatedDueToClusterListLoop : goal.returns-in-UpdatesInvalidatedDueToClusterListLoop
+unfolding kind_of
+returns-in-UpdatesInvalidatedDueToClusterListLoop c = rw c.in-UpdatesInvalidatedDueToClusterListLoop.is
+
+pub returns-in-UpdatesInvalidatedDueToASPathLoop : goal.returns-in-UpdatesInvalidatedDueToASPathLoop
+unfolding kind_of
+returns-in-UpdatesInvalidatedDueToASPathLoop c = rw c.in-UpdatesInvalidatedDueToASPathLoop.is
+
+pub returns-in-UpdatesInvalidatedDueToOriginatorId : goal.returns-in-UpdatesInvalidatedDueToOriginatorId
+unfolding kind_of
+returns-in-UpdatesInvalidatedDueToOriginatorId c = rw c.in-UpdatesInvalidatedDueToOriginatorId.is
+
+pub returns-in-UpdatesInvalidatedDueToASConfedLoop : goal.returns-in-UpdatesInvalidatedDueToASConfedLoop
+unfolding kind_of
+returns-in-UpdatesInvalidatedDueToASConfedLoop c = rw c.in-UpdatesInvalidatedDueToASConfedLoop.is
+
+pub returns-in-RoutesInAdjRibsIn : goal.returns-in-RoutesInAdjRibsIn
+unfolding kind_of
+returns-in-RoutesInAdjRibsIn c = rw c.in-RoutesInAdjRibsIn.is
+
+pub returns-in-RoutesInLocRib : goal.returns-in-RoutesInLocRib
+unfolding kind_of
+returns-in-RoutesInLocRib c = rw c.in-RoutesInLocRib.is
+
+pub returns-in-RoutesInPerAfiSafiAdjRibIn : goal.returns-in-RoutesInPerAfiSafiAdjRibIn
+unfolding kind_of
+returns-in-RoutesInPerAfiSafiAdjRibIn c = rw c.in-RoutesInPerAfiSafiAdjRibIn.is
+
+pub returns-in-RoutesInPerAfiSafiLocRib : goal.returns-in-RoutesInPerAfiSafiLocRib
+unfolding kind_of
+returns-in-RoutesInPerAfiSafiLocRib c = rw c.in-RoutesInPerAfiSafiLocRib.is
+
+pub returns-in-UpdatesSubjectedToTreatAsWithdraw : goal.returns-in-UpdatesSubjectedToTreatAsWithdraw
+unfolding kind_of
+returns-in-UpdatesSubjectedToTreatAsWithdraw c = rw c.in-UpdatesSubjectedToTreatAsWithdraw.is
+
+pub returns-in-PrefixesSubjectedToTreatAsWithdraw : goal.returns-in-PrefixesSubjectedToTreatAsWithdraw
+unfolding kind_of
+returns-in-PrefixesSubjectedToTreatAsWithdraw c = rw c.in-PrefixesSubjectedToTreatAsWithdraw.is
+
+pub returns-in-DuplicateUpdateMessagesReceived : goal.returns-in-DuplicateUpdateMessagesReceived
+unfolding kind_of
+returns-in-DuplicateUpdateMessagesReceived c = rw c.in-DuplicateUpdateMessagesReceived.is
+
+pub returns-in-RoutesInPrePolicyAdjRibOut : goal.returns-in-RoutesInPrePolicyAdjRibOut
+unfolding kind_of
+returns-in-RoutesInPrePolicyAdjRibOut c = rw c.in-RoutesInPrePolicyAdjRibOut.is
+
+pub returns-in-RoutesInPostPolicyAdjRibOut : goal.returns-in-RoutesInPostPolicyAdjRibOut
+unfolding kind_of
+returns-in-RoutesInPostPolicyAdjRibOut c = rw c.in-RoutesInPostPolicyAdjRibOut.is
+
+pub returns-in-RoutesInPerAfiSafiPrePolicyAdjRibOut : goal.returns-in-RoutesInPerAfiSafiPrePolicyAdjRibOut
+unfolding kind_of
+returns-in-RoutesInPerAfiSafiPrePolicyAdjRibOut c = rw c.in-RoutesInPerAfiSafiPrePolicyAdjRibOut.is
+
+pub returns-in-RoutesInPerAfiSafiPostPolicyAdjRibOut : goal.returns-in-RoutesInPerAfiSafiPostPolicyAdjRibOut
+unfolding kind_of
+returns-in-RoutesInPerAfiSafiPostPolicyAdjRibOut c = rw c.in-RoutesInPerAfiSafiPostPolicyAdjRibOut.is
+
+pub returns-in-RoutesInPrePolicyAdjRibIn : goal.returns-in-RoutesInPrePolicyAdjRibIn
+unfolding kind_of
+returns-in-RoutesInPrePolicyAdjRibIn c = rw c.in-RoutesInPrePolicyAdjRibIn.is
+
+pub returns-in-RoutesInPerAfiSafiPrePolicyAdjRibIn : goal.returns-in-RoutesInPerAfiSafiPrePolicyAdjRibIn
+unfolding kind_of
+returns-in-RoutesInPerAfiSafiPrePolicyAdjRibIn c = rw c.in-RoutesInPerAfiSafiPrePolicyAdjRibIn.is
+
+pub returns-in-RoutesInPostPolicyAdjRibIn : goal.returns-in-RoutesInPostPolicyAdjRibIn
+unfolding kind_of
+returns-in-RoutesInPostPolicyAdjRibIn c = rw c.in-RoutesInPostPolicyAdjRibIn.is
+
+pub returns-in-RoutesInPerAfiSafiPostPolicyAdjRibIn : goal.returns-in-RoutesInPerAfiSafiPostPolicyAdjRibIn
+unfolding kind_of
+returns-in-RoutesInPerAfiSafiPostPolicyAdjRibIn c = rw c.in-RoutesInPerAfiSafiPostPolicyAdjRibIn.is
+
+pub returns-in-RoutesInPerAfiSafiPrePolicyAdjRibInRejectedByPolicy : goal.returns-in-RoutesInPerAfiSafiPrePolicyAdjRibInRejectedByPolicy
+unfolding kind_of
+returns-in-RoutesInPerAfiSafiPrePolicyAdjRibInRejectedByPolicy c = rw c.in-RoutesInPerAfiSafiPrePolicyAdjRibInRejectedByPolicy.is
+
+pub returns-in-RoutesInPerAfiSafiPostPolicyAdjRibInAcceptedByPolicy : goal.returns-in-RoutesInPerAfiSafiPostPolicyAdjRibInAcceptedByPolicy
+unfolding kind_of
+returns-in-RoutesInPerAfiSafiPostPolicyAdjRibInAcceptedByPolicy c = rw c.in-RoutesInPerAfiSafiPostPolicyAdjRibInAcceptedByPolicy.is
+
+pub returns-in-RoutesInPerAfiSafiPostPolicyAdjRibInOrLocRibSuppressed : goal.returns-in-RoutesInPerAfiSafiPostPolicyAdjRibInOrLocRibSuppressed
+unfolding kind_of
+returns-in-RoutesInPerAfiSafiPostPolicyAdjRibInOrLocRibSuppressed c = rw c.in-RoutesInPerAfiSafiPostPolicyAdjRibInOrLocRibSuppressed.is
+
+pub returns-in-RoutesInPerAfiSafiPostPolicyAdjRibInOrLocRibStaleByGracefulRestart : goal.returns-in-RoutesInPerAfiSafiPostPolicyAdjRibInOrLocRibStaleByGracefulRestart
+unfolding kind_of
+returns-in-RoutesInPerAfiSafiPostPolicyAdjRibInOrLocRibStaleByGracefulRestart c = rw c.in-RoutesInPerAfiSafiPostPolicyAdjRibInOrLocRibStaleByGracefulRestart.is
+
+pub returns-in-RoutesInPerAfiSafiPostPolicyAdjRibInOrLocRibStaleByLongLivedGracefulRestart : goal.returns-in-RoutesInPerAfiSafiPostPolicyAdjRibInOrLocRibStaleByLongLivedGracefulRestart
+unfolding kind_of
+returns-in-RoutesInPerAfiSafiPostPolicyAdjRibInOrLocRibStaleByLongLivedGracefulRestart c = rw c.in-RoutesInPerAfiSafiPostPolicyAdjRibInOrLocRibStaleByLongLivedGracefulRestart.is
+
+pub returns-in-RoutesInPostPolicyAdjRibInLeftBeforeThreshold : goal.returns-in-RoutesInPostPolicyAdjRibInLeftBeforeThreshold
+unfolding kind_of
+returns-in-RoutesInPostPolicyAdjRibInLeftBeforeThreshold c = rw c.in-RoutesInPostPolicyAdjRibInLeftBeforeThreshold.is
+
+pub returns-in-RoutesInPerAfiSafiPostPolicyAdjRibInLeftBeforeThreshold : goal.returns-in-RoutesInPerAfiSafiPostPolicyAdjRibInLeftBeforeThreshold
+unfolding kind_of
+returns-in-RoutesInPerAfiSafiPostPolicyAdjRibInLeftBeforeThreshold c = rw c.in-RoutesInPerAfiSafiPostPolicyAdjRibInLeftBeforeThreshold.is
+
+pub returns-in-RoutesInPostPolicyAdjRibInOrLocRibLeftBeforeLicenseThreshold : goal.returns-in-RoutesInPostPolicyAdjRibInOrLocRibLeftBeforeLicenseThreshold
+unfolding kind_of
+returns-in-RoutesInPostPolicyAdjRibInOrLocRibLeftBeforeLicenseThreshold c = rw c.in-RoutesInPostPolicyAdjRibInOrLocRibLeftBeforeLicenseThreshold.is
+
+pub returns-in-RoutesInPerAfiSafiPostPolicyAdjRibInOrLocRibLeftBeforeLicenseThreshold : goal.returns-in-RoutesInPerAfiSafiPostPolicyAdjRibInOrLocRibLeftBeforeLicenseThreshold
+unfolding kind_of
+returns-in-RoutesInPerAfiSafiPostPolicyAdjRibInOrLocRibLeftBeforeLicenseThreshold c = rw c.in-RoutesInPerAfiSafiPostPolicyAdjRibInOrLocRibLeftBeforeLicenseThreshold.is
+
+pub returns-in-RoutesInPrePolicyAdjRibInRejectedDueToMaxAsPathLength : goal.returns-in-RoutesInPrePolicyAdjRibInRejectedDueToMaxAsPathLength
+unfolding kind_of
+returns-in-RoutesInPrePolicyAdjRibInRejectedDueToMaxAsPathLength c = rw c.in-RoutesInPrePolicyAdjRibInRejectedDueToMaxAsPathLength.is
+
+pub returns-in-RoutesInPerAfiSafiPrePolicyAdjRibInRejectedDueToMaxAsPathLength : goal.returns-in-RoutesInPerAfiSafiPrePolicyAdjRibInRejectedDueToMaxAsPathLength
+unfolding kind_of
+returns-in-RoutesInPerAfiSafiPrePolicyAdjRibInRejectedDueToMaxAsPathLength c = rw c.in-RoutesInPerAfiSafiPrePolicyAdjRibInRejectedDueToMaxAsPathLength.is
+
+pub returns-in-RoutesInPerAfiSafiPostPolicyAdjRibInInvalidatedByRoa : goal.returns-in-RoutesInPerAfiSafiPostPolicyAdjRibInInvalidatedByRoa
+unfolding kind_of
+returns-in-RoutesInPerAfiSafiPostPolicyAdjRibInInvalidatedByRoa c = rw c.in-RoutesInPerAfiSafiPostPolicyAdjRibInInvalidatedByRoa.is
+
+pub returns-in-RoutesInPerAfiSafiPostPolicyAdjRibInValidatedByRoa : goal.returns-in-RoutesInPerAfiSafiPostPolicyAdjRibInValidatedByRoa
+unfolding kind_of
+returns-in-RoutesInPerAfiSafiPostPolicyAdjRibInValidatedByRoa c = rw c.in-RoutesInPerAfiSafiPostPolicyAdjRibInValidatedByRoa.is
+
+pub returns-in-RoutesInPerAfiSafiPostPolicyAdjRibInRpkiStateNotFound : goal.returns-in-RoutesInPerAfiSafiPostPolicyAdjRibInRpkiStateNotFound
+unfolding kind_of
+returns-in-RoutesInPerAfiSafiPostPolicyAdjRibInRpkiStateNotFound c = rw c.in-RoutesInPerAfiSafiPostPolicyAdjRibInRpkiStateNotFound.is
+
+pub returns-in-RoutesInPerAfiSafiPrePolicyAdjRibOutRejectedByPolicy : goal.returns-in-RoutesInPerAfiSafiPrePolicyAdjRibOutRejectedByPolicy
+unfolding kind_of
+returns-in-RoutesInPerAfiSafiPrePolicyAdjRibOutRejectedByPolicy c = rw c.in-RoutesInPerAfiSafiPrePolicyAdjRibOutRejectedByPolicy.is
+
+pub returns-in-RoutesInPrePolicyAdjRibOutFilteredDueToMaxAsPathLength : goal.returns-in-RoutesInPrePolicyAdjRibOutFilteredDueToMaxAsPathLength
+unfolding kind_of
+returns-in-RoutesInPrePolicyAdjRibOutFilteredDueToMaxAsPathLength c = rw c.in-RoutesInPrePolicyAdjRibOutFilteredDueToMaxAsPathLength.is
+
+pub returns-in-RoutesInPerAfiSafiPrePolicyAdjRibOutFilteredDueToMaxAsPathLength : goal.returns-in-RoutesInPerAfiSafiPrePolicyAdjRibOutFilteredDueToMaxAsPathLength
+unfolding kind_of
+returns-in-RoutesInPerAfiSafiPrePolicyAdjRibOutFilteredDueToMaxAsPathLength c = rw c.in-RoutesInPerAfiSafiPrePolicyAdjRibOutFilteredDueToMaxAsPathLength.is
+
+pub returns-in-RoutesInPerAfiSafiPostPolicyAdjRibOutInvalidatedByRoa : goal.returns-in-RoutesInPerAfiSafiPostPolicyAdjRibOutInvalidatedByRoa
+unfolding kind_of
+returns-in-RoutesInPerAfiSafiPostPolicyAdjRibOutInvalidatedByRoa c = rw c.in-RoutesInPerAfiSafiPostPolicyAdjRibOutInvalidatedByRoa.is
+
+pub returns-in-RoutesInPerAfiSafiPostPolicyAdjRibOutValidatedByRoa : goal.returns-in-RoutesInPerAfiSafiPostPolicyAdjRibOutValidatedByRoa
+unfolding kind_of
+returns-in-RoutesInPerAfiSafiPostPolicyAdjRibOutValidatedByRoa c = rw c.in-RoutesInPerAfiSafiPostPolicyAdjRibOutValidatedByRoa.is
+
+pub returns-in-RoutesInPerAfiSafiPostPolicyAdjRibOutRpkiStateNotFound : goal.returns-in-RoutesInPerAfiSafiPostPolicyAdjRibOutRpkiStateNotFound
+unfolding kind_of
+returns-in-RoutesInPerAfiSafiPostPolicyAdjRibOutRpkiStateNotFound c = rw c.in-RoutesInPerAfiSafiPostPolicyAdjRibOutRpkiStateNotFound.is
+
+pub returns-in-Other : goal.returns-in-Other
+unfolding kind_of
+returns-in-Other c = rw c.in-Other.is
