@@ -1,9 +1,13 @@
 // Keeps one board, and answers each line of standard input with a line: a call, a lookup, or the peers that are on it (docs/REPLAY.md, "Boards").
+#![tactic(auto)]
+
 use board::{Board, Looked, Peer, Place, Updated};
 use kept_report::{KeptCounter, KeptData, KeptReport};
 use models::Afi;
 use peer_down_notification::PeerDownAnswer;
 use per_peer_record::BmpPerPeerHeader;
+use std::io;
+use std::io::Read;
 use trial_forms::Shown;
 use trial_hex::Unhexed;
 use trial_input::Input;
@@ -21,7 +25,7 @@ const LONGEST_ANSWER: usize = 8_192;
 // What stands behind a header starts here.
 const BODY_AT: usize = 42;
 
-#[derive(Drop)]
+#[derive(Clone, Copy)]
 enum Verb {
     Clear,
     List,
@@ -33,7 +37,7 @@ enum Verb {
 }
 
 // What a line asks for: nothing, a verb that stands alone, or one with how many bytes its text writes.
-#[derive(Drop)]
+#[derive(Clone, Copy)]
 enum Asked {
     Nothing,
     Bad,
@@ -41,52 +45,71 @@ enum Asked {
     With(Verb, usize),
 }
 
-#[derive(Drop)]
+#[derive(Clone, Copy)]
 struct Line {
     input: Input,
     asked: Asked,
 }
 
 // What a call was answered, and the board after it.
-#[derive(Drop)]
+#[derive(Clone, Copy)]
 struct Answered {
     shown: Shown,
     board: Board,
 }
 
-fn main() {
+fn main(rt: HostRuntime) -> io::Result<()> {
     let mut piece = [0u8; 65_536];
     // One byte more than the longest line: what fills it is no good line, however it goes on.
     let mut line = [0u8; LONGEST_LINE + 1];
     let mut bytes = [0u8; MOST_BYTES];
     let mut out = [0u8; LONGEST_ANSWER];
-    answer_lines(&mut piece, &mut line, &mut bytes, &mut out);
+    answer_lines(
+        &rt,
+        &mut rt.reader(),
+        &mut piece,
+        &mut line,
+        &mut bytes,
+        &mut out,
+    )
 }
 
-fn answer_lines(piece: &mut [u8], line: &mut [u8], bytes: &mut [u8], out: &mut [u8]) {
+fn answer_lines(
+    rt: &impl Print,
+    reader: &mut impl Read,
+    piece: &mut [u8],
+    line: &mut [u8],
+    bytes: &mut [u8],
+    out: &mut [u8],
+) -> io::Result<()> {
     let mut input = trial_input::no_input();
     let mut board = board::empty();
-    let mut lines: u64 = 0;
-    while lines < trial_input::NO_END {
-        let read = read_line(input, piece, line, bytes);
+    for _ in 0..trial_input::NO_END {
+        let read = read_line(reader, input, piece, line, bytes)?;
         input = read.input;
         let asked = read.asked;
-        board = answer(board, asked, bytes, out);
+        board = answer(rt, board, asked, bytes, out)?;
         if input.ended {
-            return;
+            return Ok(());
         }
-        lines += 1;
     }
+    Ok(())
 }
 
 // ---- a line, taken apart
-fn read_line(before: Input, piece: &mut [u8], line: &mut [u8], bytes: &mut [u8]) -> Line {
-    let input = trial_input::read_line(before, piece, line);
+fn read_line(
+    reader: &mut impl Read,
+    before: Input,
+    piece: &mut [u8],
+    line: &mut [u8],
+    bytes: &mut [u8],
+) -> io::Result<Line> {
+    let input = trial_input::read_line(reader, before, piece, line)?;
     let length = input.line_length;
-    Line {
+    Ok(Line {
         input: input,
         asked: ask(trial_input::front(line, length), bytes),
-    }
+    })
 }
 
 // A verb, and behind one space the text of its bytes.
@@ -141,38 +164,50 @@ fn with_bytes(verb: Verb, count: usize) -> Asked {
 }
 
 // ---- its answer
-fn answer(board: Board, asked: Asked, bytes: &[u8], out: &mut [u8]) -> Board {
+fn answer(
+    rt: &impl Print,
+    board: Board,
+    asked: Asked,
+    bytes: &[u8],
+    out: &mut [u8],
+) -> io::Result<Board> {
     match asked {
-        Asked::Nothing => board,
+        Asked::Nothing => Ok(board),
         Asked::Bad => {
-            print(out, trial_forms::bare(trial_forms::BAD_LINE));
-            board
+            print(rt, out, trial_forms::bare(trial_forms::BAD_LINE))?;
+            Ok(board)
         }
-        Asked::Alone(verb) => answer_alone(board, verb, out),
+        Asked::Alone(verb) => answer_alone(rt, board, verb, out),
         Asked::With(verb, count) => {
-            answer_with(board, verb, trial_input::front(bytes, count), out)
+            answer_with(rt, board, verb, trial_input::front(bytes, count), out)
         }
     }
 }
 
-fn answer_alone(board: Board, verb: Verb, out: &mut [u8]) -> Board {
+fn answer_alone(rt: &impl Print, board: Board, verb: Verb, out: &mut [u8]) -> io::Result<Board> {
     let Verb::List = verb else {
-        print(out, trial_forms::bare(trial_forms::OK));
-        return board::empty();
+        print(rt, out, trial_forms::bare(trial_forms::OK))?;
+        return Ok(board::empty());
     };
     let places = board.places;
-    print_peers(out, places);
-    board
+    print_peers(rt, out, places)?;
+    Ok(board)
 }
 
-fn answer_with(board: Board, verb: Verb, s: &[u8], out: &mut [u8]) -> Board {
+fn answer_with(
+    rt: &impl Print,
+    board: Board,
+    verb: Verb,
+    s: &[u8],
+    out: &mut [u8],
+) -> io::Result<Board> {
     let Verb::Show = verb else {
         let answered = call(board, verb, s);
-        print(out, answered.shown);
-        return answered.board;
+        print(rt, out, answered.shown)?;
+        return Ok(answered.board);
     };
-    print_lookup(out, board, s);
-    board
+    print_lookup(rt, out, board, s)?;
+    Ok(board)
 }
 
 fn call(board: Board, verb: Verb, s: &[u8]) -> Answered {
@@ -183,9 +218,9 @@ fn call(board: Board, verb: Verb, s: &[u8]) -> Answered {
     }
 }
 
-fn print(out: &mut [u8], shown: Shown) {
+fn print(rt: &impl Print, out: &mut [u8], shown: Shown) -> io::Result<()> {
     let end = trial_forms::put(out, 0, shown, b"");
-    trial_input::write(trial_input::front(out, end));
+    trial_input::write(rt, trial_input::front(out, end))
 }
 
 // ---- the calls: each reads header and body, and lends the board
@@ -276,45 +311,41 @@ fn number_shown(number: u8) -> Shown {
 }
 
 // ---- a lookup
-fn print_lookup(out: &mut [u8], board: Board, s: &[u8]) {
+fn print_lookup(rt: &impl Print, out: &mut [u8], board: Board, s: &[u8]) -> io::Result<()> {
     let answer = per_peer_header::parse_per_peer_header(s);
     let header = answer.header;
     if answer.refusal.number != wire::GOOD {
-        print(out, trial_forms::refused(answer.refusal));
-        return;
+        return print(rt, out, trial_forms::refused(answer.refusal));
     }
     let key = peer_key::key_of(header);
-    print_looked(out, trial_board::lend_look(board, key));
+    print_looked(rt, out, trial_board::lend_look(board, key))
 }
 
-fn print_looked(out: &mut [u8], looked: Looked) {
+fn print_looked(rt: &impl Print, out: &mut [u8], looked: Looked) -> io::Result<()> {
     let peer = looked.peer;
     if looked.number != wire::GOOD {
-        print(out, number_shown(looked.number));
-        return;
+        return print(rt, out, number_shown(looked.number));
     }
-    print_peer(out, peer);
+    print_peer(rt, out, peer)
 }
 
-fn print_peer(out: &mut [u8], peer: Peer) {
+fn print_peer(rt: &impl Print, out: &mut [u8], peer: Peer) -> io::Result<()> {
     let report = peer.report;
     if peer.reported {
-        print_report(out, report);
+        print_report(rt, out, report)
     } else {
-        print(out, trial_forms::bare(trial_forms::NONE_YET));
+        print(rt, out, trial_forms::bare(trial_forms::NONE_YET))
     }
 }
 
-fn print_report(out: &mut [u8], report: KeptReport) {
+fn print_report(rt: &impl Print, out: &mut [u8], report: KeptReport) -> io::Result<()> {
     let count = report.count;
     let mut next = trial_forms::put(out, 0, counted(trial_forms::REPORT, count as u64), b"");
-    let mut i: usize = 0;
-    while i < stats_report::COUNTER_PLACES {
+    for i in 0..stats_report::COUNTER_PLACES {
         let counter = report.counters[i];
         next = put_counter(out, next, i, count, counter);
-        i += 1;
     }
-    print_end(out, next);
+    print_end(rt, out, next)
 }
 
 // A counter past the count is none.
@@ -329,9 +360,9 @@ fn counted(form: usize, count: u64) -> Shown {
     trial_forms::of_five(form, 0, count, 0, 0, 0, 0)
 }
 
-fn print_end(out: &mut [u8], at: usize) {
+fn print_end(rt: &impl Print, out: &mut [u8], at: usize) -> io::Result<()> {
     let end = trial_forms::put(out, at, trial_forms::bare(trial_forms::TABLE_END), b"");
-    trial_input::write(trial_input::front(out, end));
+    trial_input::write(rt, trial_input::front(out, end))
 }
 
 // By the forms of a report's own counters: a raw value whose bytes are gone is an empty one.
@@ -362,17 +393,19 @@ fn counter_shown(i: u64, counter: KeptCounter) -> Shown {
 }
 
 // ---- the peers on the board
-fn print_peers(out: &mut [u8], places: [Place; board::PEER_PLACES]) {
+fn print_peers(
+    rt: &impl Print,
+    out: &mut [u8],
+    places: [Place; board::PEER_PLACES],
+) -> io::Result<()> {
     let mut next = trial_forms::put(out, 0, counted(trial_forms::PEERS, used(places)), b"");
     let mut shown: u64 = 0;
-    let mut i: usize = 0;
-    while i < board::PEER_PLACES {
+    for i in 0..board::PEER_PLACES {
         let place = places[i];
         next = put_place(out, next, shown, place);
         shown = one_more(shown, place.used);
-        i += 1;
     }
-    print_end(out, next);
+    print_end(rt, out, next)
 }
 
 fn put_place(out: &mut [u8], at: usize, shown: u64, place: Place) -> usize {
@@ -391,10 +424,8 @@ fn one_more(count: u64, counts: bool) -> u64 {
 
 fn used(places: [Place; board::PEER_PLACES]) -> u64 {
     let mut count: u64 = 0;
-    let mut i: usize = 0;
-    while i < board::PEER_PLACES {
+    for i in 0..board::PEER_PLACES {
         count = one_more(count, places[i].used);
-        i += 1;
     }
     count
 }

@@ -1,5 +1,9 @@
 // Keeps one receiver, and answers each line of standard input with a line: a piece that it is given, or a change of what the next call finds (docs/REPLAY.md, "Receive").
+#![tactic(auto)]
+
 use receiver::{Outcome, Received, Receiver};
+use std::io;
+use std::io::Read;
 use trial_forms::Shown;
 use trial_hex::Unhexed;
 use trial_input::Input;
@@ -30,7 +34,7 @@ const TOOK_SKIPPED: usize = 4;
 
 const TOOK_REFUSED: usize = 5;
 
-#[derive(Drop)]
+#[derive(Clone, Copy)]
 enum Verb {
     Piece,
     Size,
@@ -40,7 +44,7 @@ enum Verb {
 }
 
 // What a line asks for: nothing, or a call or a change, with how many bytes its text writes or the size that it names.
-#[derive(Drop)]
+#[derive(Clone, Copy)]
 enum Asked {
     Nothing,
     Bad,
@@ -51,46 +55,55 @@ enum Asked {
 }
 
 // The receiver's state, and how many bytes of the array the next call is lent.
-#[derive(Drop)]
+#[derive(Clone, Copy)]
 struct Session {
     state: Receiver,
     lent: usize,
 }
 
 // Where the input stands after a line, and the session after its answer.
-#[derive(Drop)]
+#[derive(Clone, Copy)]
 struct Turn {
     input: Input,
     session: Session,
 }
 
-fn main() {
+fn main(rt: HostRuntime) -> io::Result<()> {
     let mut chunk = [0u8; 65_536];
     // One byte more than the longest line: what fills it is no good line, however it goes on.
     let mut line = [0u8; LONGEST_LINE + 1];
     let mut bytes = [0u8; MOST_BYTES];
     let mut array = [0u8; ARRAY];
     let mut out = [0u8; LONGEST_ANSWER];
-    answer_lines(&mut chunk, &mut line, &mut bytes, &mut array, &mut out);
+    answer_lines(
+        &rt,
+        &mut rt.reader(),
+        &mut chunk,
+        &mut line,
+        &mut bytes,
+        &mut array,
+        &mut out,
+    )
 }
 
 fn answer_lines(
+    rt: &impl Print,
+    reader: &mut impl Read,
     chunk: &mut [u8],
     line: &mut [u8],
     bytes: &mut [u8],
     array: &mut [u8],
     out: &mut [u8],
-) {
+) -> io::Result<()> {
     let mut turn = first_turn();
-    let mut lines: u64 = 0;
-    while lines < trial_input::NO_END {
-        turn = answer_line(turn, chunk, line, bytes, array, out);
+    for _ in 0..trial_input::NO_END {
+        turn = answer_line(rt, reader, turn, chunk, line, bytes, array, out)?;
         let input = turn.input;
         if input.ended {
-            return;
+            return Ok(());
         }
-        lines += 1;
     }
+    Ok(())
 }
 
 fn first_turn() -> Turn {
@@ -104,22 +117,24 @@ fn first_turn() -> Turn {
 }
 
 fn answer_line(
+    rt: &impl Print,
+    reader: &mut impl Read,
     before: Turn,
     chunk: &mut [u8],
     line: &mut [u8],
     bytes: &mut [u8],
     array: &mut [u8],
     out: &mut [u8],
-) -> Turn {
+) -> io::Result<Turn> {
     let read = before.input;
     let session = before.session;
-    let input = trial_input::read_line(read, chunk, line);
+    let input = trial_input::read_line(reader, read, chunk, line)?;
     let length = input.line_length;
     let asked = ask(trial_input::front(line, length), bytes);
-    Turn {
+    Ok(Turn {
         input: input,
-        session: answer(session, asked, bytes, array, out),
-    }
+        session: answer(rt, session, asked, bytes, array, out)?,
+    })
 }
 
 // ---- a line, taken apart
@@ -204,36 +219,40 @@ fn is_zero(text: &[u8]) -> bool {
 
 // ---- its answer
 fn answer(
+    rt: &impl Print,
     session: Session,
     asked: Asked,
     bytes: &[u8],
     array: &mut [u8],
     out: &mut [u8],
-) -> Session {
+) -> io::Result<Session> {
     match asked {
-        Asked::Nothing => session,
+        Asked::Nothing => Ok(session),
         Asked::Bad => {
-            print(out, trial_forms::bare(BAD_LINE), b"");
-            session
+            print(rt, out, trial_forms::bare(BAD_LINE), b"")?;
+            Ok(session)
         }
-        Asked::Piece(count) => take_piece(session, trial_input::front(bytes, count), array, out),
-        Asked::Size(size) => confirm(out, resized(session, size)),
+        Asked::Piece(count) => {
+            take_piece(rt, session, trial_input::front(bytes, count), array, out)
+        }
+        Asked::Size(size) => confirm(rt, out, resized(session, size)),
         Asked::Forge(count) => {
             confirm(
+                rt,
                 out,
                 forged(session, trial_input::front(bytes, count), array),
             )
         }
-        Asked::Reset => confirm(out, with_state(session, receiver::reset())),
+        Asked::Reset => confirm(rt, out, with_state(session, receiver::reset())),
     }
 }
 
-fn confirm(out: &mut [u8], changed: Session) -> Session {
-    print(out, trial_forms::bare(OK), b"");
-    changed
+fn confirm(rt: &impl Print, out: &mut [u8], changed: Session) -> io::Result<Session> {
+    print(rt, out, trial_forms::bare(OK), b"")?;
+    Ok(changed)
 }
 
-fn print(out: &mut [u8], shown: Shown, body: &[u8]) {
+fn print(rt: &impl Print, out: &mut [u8], shown: Shown, body: &[u8]) -> io::Result<()> {
     let forms = b"bad line\n|\
         ok\n|\
         took # held #\n|\
@@ -241,7 +260,7 @@ fn print(out: &mut [u8], shown: Shown, body: &[u8]) {
         took # held # skipped $\n|\
         took # held # refused # at #\n|";
     let end = trial_forms::put_shown(out, 0, forms, shown, body);
-    trial_input::write(trial_input::front(out, end));
+    trial_input::write(rt, trial_input::front(out, end))
 }
 
 // ---- the changes
@@ -276,12 +295,18 @@ fn forged(session: Session, bytes: &[u8], array: &mut [u8]) -> Session {
 
 // ---- a call
 // A message's view is of what was lent, and so of the array, at whose start that stands.
-fn take_piece(session: Session, piece: &[u8], array: &mut [u8], out: &mut [u8]) -> Session {
+fn take_piece(
+    rt: &impl Print,
+    session: Session,
+    piece: &[u8],
+    array: &mut [u8],
+    out: &mut [u8],
+) -> io::Result<Session> {
     let state = session.state;
     let received = receiver::receive(lend(array, session.lent), state, piece);
-    print(out, shown_of(received), array);
+    print(rt, out, shown_of(received), array)?;
     let after = received.state;
-    with_state(session, after)
+    Ok(with_state(session, after))
 }
 
 // The first bytes of the array. No size is above its length; were one, the receiver would refuse what it is lent.

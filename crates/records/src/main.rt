@@ -1,5 +1,9 @@
 // Writes the record of each line of standard input into longer and shorter outputs, one byte too long, and with each fault that it can have, and says
 // what came of it (docs/REPLAY.md, "Records").
+#![tactic(auto)]
+
+use std::io;
+use std::io::Read;
 use trial_forms::{Arguments, Kind, Shown};
 use trial_input::Input;
 use trial_line::{Asked, Command, Verb};
@@ -40,90 +44,114 @@ const NOT_WRITABLE: usize = 9;
 
 const CUT: usize = 10;
 
-fn main() {
+fn main(rt: HostRuntime) -> io::Result<()> {
     let mut piece = [0u8; 4_096];
     let mut line = [0u8; LONGEST_LINE + 1];
     let mut bytes = [0u8; ROOM];
     let mut out = [0u8; ROOM];
-    try_lines(&mut piece, &mut line, &mut bytes, &mut out);
+    try_lines(
+        &rt,
+        &mut rt.reader(),
+        &mut piece,
+        &mut line,
+        &mut bytes,
+        &mut out,
+    )
 }
 
-fn try_lines(piece: &mut [u8], line: &mut [u8], bytes: &mut [u8], out: &mut [u8]) {
+fn try_lines(
+    rt: &impl Print,
+    reader: &mut impl Read,
+    piece: &mut [u8],
+    line: &mut [u8],
+    bytes: &mut [u8],
+    out: &mut [u8],
+) -> io::Result<()> {
     let mut input = trial_input::no_input();
-    let mut lines: u64 = 0;
-    while lines < trial_input::NO_END {
-        input = try_next(input, piece, line, bytes, out);
+    for _ in 0..trial_input::NO_END {
+        input = try_next(rt, reader, input, piece, line, bytes, out)?;
         if input.ended {
-            return;
+            return Ok(());
         }
-        lines += 1;
     }
+    Ok(())
 }
 
 fn try_next(
+    rt: &impl Print,
+    reader: &mut impl Read,
     before: Input,
     piece: &mut [u8],
     line: &mut [u8],
     bytes: &mut [u8],
     out: &mut [u8],
-) -> Input {
-    let input = trial_input::read_line(before, piece, line);
+) -> io::Result<Input> {
+    let input = trial_input::read_line(reader, before, piece, line)?;
     let length = input.line_length;
-    try_line(trial_input::front(line, length), bytes, out);
-    input
+    try_line(rt, trial_input::front(line, length), bytes, out)?;
+    Ok(input)
 }
 
-fn try_line(line: &[u8], bytes: &mut [u8], out: &mut [u8]) {
+fn try_line(rt: &impl Print, line: &[u8], bytes: &mut [u8], out: &mut [u8]) -> io::Result<()> {
     match trial_line::ask(line, bytes) {
-        Asked::Nothing => {}
-        Asked::Bad => print(BAD_LINE, 0, 0),
-        Asked::Good(command, count) => try_command(line, command, count, bytes, out),
+        Asked::Nothing => Ok(()),
+        Asked::Bad => print(rt, BAD_LINE, 0, 0),
+        Asked::Good(command, count) => try_command(rt, line, command, count, bytes, out),
     }
 }
 
 // Lines of every verb but `rewrite-` have no record to write.
-fn try_command(line: &[u8], command: Command, count: usize, bytes: &[u8], out: &mut [u8]) {
+fn try_command(
+    rt: &impl Print,
+    line: &[u8],
+    command: Command,
+    count: usize,
+    bytes: &[u8],
+    out: &mut [u8],
+) -> io::Result<()> {
     let verb = command.verb;
     let Verb::Rewrite(kind) = verb else {
-        return print(BAD_LINE, 0, 0);
+        return print(rt, BAD_LINE, 0, 0);
     };
-    try_record(line, kind, command.arguments, count, bytes, out);
+    try_record(rt, line, kind, command.arguments, count, bytes, out)
 }
 
 fn try_record(
+    rt: &impl Print,
     line: &[u8],
     kind: Kind,
     arguments: Arguments,
     count: usize,
     bytes: &[u8],
     out: &mut [u8],
-) {
-    try_rooms(line, kind, arguments, count, bytes, out);
+) -> io::Result<()> {
+    try_rooms(rt, line, kind, arguments, count, bytes, out)?;
     if count < SMALL {
-        try_changes(line, kind, arguments, count, bytes, out);
-        try_values(kind, trial_input::front(bytes, count), bytes.len());
+        try_changes(rt, line, kind, arguments, count, bytes, out)?;
+        try_values(rt, kind, trial_input::front(bytes, count), bytes.len())?;
     }
+    Ok(())
 }
 
 // Outputs of four lengths for the record as it is, and two for one that is a byte too long, where it can be made that long.
 fn try_rooms(
+    rt: &impl Print,
     line: &[u8],
     kind: Kind,
     arguments: Arguments,
     count: usize,
     bytes: &[u8],
     out: &mut [u8],
-) {
+) -> io::Result<()> {
     let cases = cases_of(count);
-    let mut case: usize = 0;
-    while case < cases {
+    for case in 0..cases {
         trial_hex::put_untouched(out);
-        print_heading(line, case, count);
+        print_heading(rt, line, case, count)?;
         let room = room_of(case, count);
         let answer = write(kind, arguments, change_of(case), count, room, bytes, out);
-        print_written(answer, bytes, out);
-        case += 1;
+        print_written(rt, answer, bytes, out)?;
     }
+    Ok(())
 }
 
 // A record of as many bytes as a slice may have, and one more, is too long.
@@ -156,40 +184,40 @@ fn one_less(count: usize) -> usize {
 
 // Each change of the record's kind, with all the room there is.
 fn try_changes(
+    rt: &impl Print,
     line: &[u8],
     kind: Kind,
     arguments: Arguments,
     count: usize,
     bytes: &[u8],
     out: &mut [u8],
-) {
+) -> io::Result<()> {
     let end = trial_changes::end_of(kind);
-    let mut change: u8 = trial_changes::FIRST;
-    while change < end {
+    for change in trial_changes::FIRST..end {
         trial_hex::put_untouched(out);
-        print_change(line, change);
+        print_change(rt, line, change)?;
         let answer = write(kind, arguments, change, count, ROOM, bytes, out);
-        print_written(answer, bytes, out);
-        change += 1;
+        print_written(rt, answer, bytes, out)?;
     }
+    Ok(())
 }
 
 // What a counter cannot have, its value and its length can have when they are handed to the writer of values apart.
-fn try_values(kind: Kind, s: &[u8], buffer_length: usize) {
+fn try_values(rt: &impl Print, kind: Kind, s: &[u8], buffer_length: usize) -> io::Result<()> {
     let Kind::Stats = kind else {
-        return;
+        return Ok(());
     };
-    try_value(1, s, buffer_length);
-    try_value(2, s, buffer_length);
-    try_value(3, s, buffer_length);
-    try_value(4, s, buffer_length);
+    try_value(rt, 1, s, buffer_length)?;
+    try_value(rt, 2, s, buffer_length)?;
+    try_value(rt, 3, s, buffer_length)?;
+    try_value(rt, 4, s, buffer_length)
 }
 
-fn try_value(trial: u8, s: &[u8], buffer_length: usize) {
+fn try_value(rt: &impl Print, trial: u8, s: &[u8], buffer_length: usize) -> io::Result<()> {
     if trial_writers::is_value_writable(trial, s, buffer_length) {
-        print(WRITABLE, trial as usize, 0);
+        print(rt, WRITABLE, trial as usize, 0)
     } else {
-        print(NOT_WRITABLE, trial as usize, 0);
+        print(rt, NOT_WRITABLE, trial as usize, 0)
     }
 }
 
@@ -213,37 +241,37 @@ fn front_mut(out: &mut [u8], length: usize) -> &mut [u8] {
     &mut out[0..length]
 }
 
-fn print_heading(line: &[u8], case: usize, count: usize) {
+fn print_heading(rt: &impl Print, line: &[u8], case: usize, count: usize) -> io::Result<()> {
     let length = std::num::wrapping_add_usize(count, change_of(case) as usize);
-    print_name(b"write ", line);
-    print(INTO, length, room_of(case, count));
+    print_name(rt, b"write ", line)?;
+    print(rt, INTO, length, room_of(case, count))
 }
 
-fn print_change(line: &[u8], change: u8) {
-    print_name(b"change ", line);
-    print(CHANGED, change as usize, 0);
+fn print_change(rt: &impl Print, line: &[u8], change: u8) -> io::Result<()> {
+    print_name(rt, b"change ", line)?;
+    print(rt, CHANGED, change as usize, 0)
 }
 
 // The name of the reader stands in the line's verb, behind `rewrite-`.
-fn print_name(heading: &[u8], line: &[u8]) {
+fn print_name(rt: &impl Print, heading: &[u8], line: &[u8]) -> io::Result<()> {
     let name = View {
         place: 8,
         length: std::num::wrapping_sub_usize(trial_hex::place_of(line, b' '), 8),
     };
-    trial_input::write(heading);
-    trial_input::write(name.part(line));
+    trial_input::write(rt, heading)?;
+    trial_input::write(rt, name.part(line))
 }
 
 // What was written is to be the bytes that the record was read from, and every other byte of the output what it was.
-fn print_written(answer: WriteAnswer, bytes: &[u8], out: &[u8]) {
+fn print_written(rt: &impl Print, answer: WriteAnswer, bytes: &[u8], out: &[u8]) -> io::Result<()> {
     match answer {
         WriteAnswer::Written(length) => {
-            print(written_form(is_copied(bytes, out, length)), length, 0);
-            print_outside(out, length);
+            print(rt, written_form(is_copied(bytes, out, length)), length, 0)?;
+            print_outside(rt, out, length)
         }
         WriteAnswer::Refused(refusal) => {
-            print_refusal(refusal);
-            print_outside(out, 0);
+            print_refusal(rt, refusal)?;
+            print_outside(rt, out, 0)
         }
     }
 }
@@ -259,54 +287,62 @@ fn is_copied(bytes: &[u8], out: &[u8], n: usize) -> bool {
     if out.len() < n {
         return false;
     }
-    let mut i: usize = 0;
-    while i < n {
+    for i in 0..n {
         if out[i] != bytes[i] {
             return false;
         }
-        i += 1;
     }
     true
 }
 
-fn print_outside(out: &[u8], start: usize) {
+fn print_outside(rt: &impl Print, out: &[u8], start: usize) -> io::Result<()> {
     if is_untouched(out, start) {
-        print(OUTSIDE_SAME, 0, 0);
+        print(rt, OUTSIDE_SAME, 0, 0)
     } else {
-        print(OUTSIDE_OTHER, 0, 0);
+        print(rt, OUTSIDE_OTHER, 0, 0)
     }
 }
 
 fn is_untouched(out: &[u8], start: usize) -> bool {
-    let mut i = start;
-    while i < out.len() {
+    for i in start..out.len() {
         if out[i] != UNTOUCHED {
             return false;
         }
-        i += 1;
     }
     true
 }
 
 // A Cut alone says what is missing.
-fn print_refusal(refusal: Refusal) {
+fn print_refusal(rt: &impl Print, refusal: Refusal) -> io::Result<()> {
     if refusal.number == wire::CUT {
-        print_three(CUT, refusal.number as usize, refusal.place, refusal.missing);
+        print_three(
+            rt,
+            CUT,
+            refusal.number as usize,
+            refusal.place,
+            refusal.missing,
+        )
     } else {
-        print(NOT_WRITTEN, refusal.number as usize, refusal.place);
+        print(rt, NOT_WRITTEN, refusal.number as usize, refusal.place)
     }
 }
 
-fn print(form: usize, first: usize, second: usize) {
-    print_three(form, first, second, 0);
+fn print(rt: &impl Print, form: usize, first: usize, second: usize) -> io::Result<()> {
+    print_three(rt, form, first, second, 0)
 }
 
 // Prints a form with its numbers (docs/REPLAY.md, "Forms").
-fn print_three(form: usize, first: usize, second: usize, third: usize) {
+fn print_three(
+    rt: &impl Print,
+    form: usize,
+    first: usize,
+    second: usize,
+    third: usize,
+) -> io::Result<()> {
     let mut text = [0u8; 96];
     let shown = trial_forms::of_five(form, 0, first as u64, second as u64, third as u64, 0, 0);
     let end = put(&mut text, shown);
-    trial_input::write(trial_input::front(&text, end));
+    trial_input::write(rt, trial_input::front(&text, end))
 }
 
 fn put(text: &mut [u8], shown: Shown) -> usize {

@@ -1,4 +1,8 @@
 // Puts each line of standard input to a reader, a writer or the splitter, and answers it with a line (docs/REPLAY.md).
+#![tactic(auto)]
+
+use std::io;
+use std::io::Read;
 use trial_forms::{Kind, Shown};
 use trial_input::Input;
 use trial_line::{Asked, Command, Verb};
@@ -13,48 +17,59 @@ const MOST_BYTES: usize = 1_048_577;
 // Two digits for each byte, and what a table's entries have beside them.
 const LONGEST_ANSWER: usize = 2_101_248;
 
-fn main() {
+fn main(rt: HostRuntime) -> io::Result<()> {
     let mut piece = [0u8; 65_536];
     // One byte more than the longest line: what fills it is no good line, however it goes on.
     let mut line = [0u8; LONGEST_LINE + 1];
     let mut bytes = [0u8; MOST_BYTES];
     let mut room = [0u8; MOST_BYTES + 2];
     let mut out = [0u8; LONGEST_ANSWER];
-    answer_lines(&mut piece, &mut line, &mut bytes, &mut room, &mut out);
+    answer_lines(
+        &rt,
+        &mut rt.reader(),
+        &mut piece,
+        &mut line,
+        &mut bytes,
+        &mut room,
+        &mut out,
+    )
 }
 
 fn answer_lines(
+    rt: &impl Print,
+    reader: &mut impl Read,
     piece: &mut [u8],
     line: &mut [u8],
     bytes: &mut [u8],
     room: &mut [u8],
     out: &mut [u8],
-) {
+) -> io::Result<()> {
     let mut input = trial_input::no_input();
-    let mut lines: u64 = 0;
-    while lines < trial_input::NO_END {
-        input = answer_line(input, piece, line, bytes, room, out);
+    for _ in 0..trial_input::NO_END {
+        input = answer_line(rt, reader, input, piece, line, bytes, room, out)?;
         if input.ended {
-            return;
+            return Ok(());
         }
-        lines += 1;
     }
+    Ok(())
 }
 
 fn answer_line(
+    rt: &impl Print,
+    reader: &mut impl Read,
     before: Input,
     piece: &mut [u8],
     line: &mut [u8],
     bytes: &mut [u8],
     room: &mut [u8],
     out: &mut [u8],
-) -> Input {
-    let input = trial_input::read_line(before, piece, line);
+) -> io::Result<Input> {
+    let input = trial_input::read_line(reader, before, piece, line)?;
     let length = input.line_length;
     let asked = trial_line::ask(trial_input::front(line, length), bytes);
     let end = put_asked(out, asked, bytes, room);
-    trial_input::write(trial_input::front(out, end));
-    input
+    trial_input::write(rt, trial_input::front(out, end))?;
+    Ok(input)
 }
 
 fn put_asked(out: &mut [u8], asked: Asked, bytes: &[u8], room: &mut [u8]) -> usize {
@@ -115,10 +130,8 @@ fn is_rewritten(command: Command, form: usize) -> bool {
 
 fn put_entries(out: &mut [u8], at: usize, count: usize, command: Command, body: &[u8]) -> usize {
     let mut next = at;
-    let mut i: usize = 0;
-    while i < count {
+    for i in 0..count {
         next = trial_forms::put(out, next, entry(command, body, i), body);
-        i += 1;
     }
     trial_forms::put(out, next, trial_forms::bare(trial_forms::TABLE_END), body)
 }

@@ -1,16 +1,19 @@
-// The lines of standard input, one at a time, and text to standard output: what every program that takes lines shares (docs/REPLAY.md, "Input").
+// The lines of an input, one at a time, and text to standard output: what every program that takes lines shares (docs/REPLAY.md, "Input").
+#![tactic(auto)]
+
 ghost use Rattle.std.specs.Prelude.{◌≡◌};
 ghost use Rattle.wire.specs.View.{view, viewed};
 ghost use Rattle.trial_input.specs.Input.{no_input};
 
-use libc::{STDIN_FILENO, STDOUT_FILENO};
+use std::io;
+use std::io::Read;
 use wire::View;
 
 // More than any input has; a loop has to have a bound.
 pub const NO_END: u64 = 18_446_744_073_709_551_615;
 
 // How much of the input's last piece was taken and how long it is, the length of the line that was read, and whether the input ended with it.
-#[derive(Drop)]
+#[derive(Clone, Copy)]
 pub struct Input {
     pub taken: usize,
     pub piece_length: usize,
@@ -31,38 +34,41 @@ pub fn no_input() -> Input
 }
 
 // Reads on to the next LF, piece by piece. What does not fit the line is left out; a line that fills it may have gone on.
-pub fn read_line(before: Input, piece: &mut [u8], line: &mut [u8]) -> Input {
+pub fn read_line(
+    reader: &mut impl Read,
+    before: Input,
+    piece: &mut [u8],
+    line: &mut [u8],
+) -> io::Result<Input> {
     let mut input = before;
     let mut kept: usize = 0;
-    let mut steps: u64 = 0;
-    while steps < NO_END {
-        input = refilled(input, piece);
+    for _ in 0..NO_END {
+        input = refilled(reader, input, piece)?;
         if input.ended {
-            return with_line(input, kept);
+            return Ok(with_line(input, kept));
         }
         let byte = numbers::u8_at(piece, input.taken);
         input = after_byte(input);
         if byte == b'\n' {
-            return with_line(input, kept);
+            return Ok(with_line(input, kept));
         }
         kept = with_byte(line, kept, byte);
-        steps += 1;
     }
-    with_line(input, kept)
+    Ok(with_line(input, kept))
 }
 
 // The next piece, where the last one is used up.
-fn refilled(input: Input, piece: &mut [u8]) -> Input {
+fn refilled(reader: &mut impl Read, input: Input, piece: &mut [u8]) -> io::Result<Input> {
     if input.taken < input.piece_length {
-        return input;
+        return Ok(input);
     }
-    let count = io::count(libc::read(STDIN_FILENO, piece), piece);
-    Input {
+    let count = reader.read(piece)?;
+    Ok(Input {
         taken: 0,
         piece_length: count,
         line_length: 0,
         ended: count == 0,
-    }
+    })
 }
 
 fn after_byte(input: Input) -> Input {
@@ -103,6 +109,6 @@ pub fn front(s: &[u8], length: usize) -> &[u8]
 }
 
 // Writes a text to standard output.
-pub fn write(text: &[u8]) {
-    io::write_all(STDOUT_FILENO, text);
+pub fn write(rt: &impl Print, text: &[u8]) -> io::Result<()> {
+    rt.write_all(text)
 }
