@@ -1,8 +1,7 @@
 // A field of sixteen bytes, and the address that it shows.
 #![tactic(auto)]
 
-ghost use Rattle.std.specs.Prelude.{◌≡◌, ◌+◌, ◌≤◌, drop, replicate};
-ghost use Rattle.std.proofs.Math.Seq.{paste};
+ghost use Rattle.std.specs.Prelude.{◌≡◌};
 ghost use Rattle.addresses.specs.Address.{sixteen_at, shown_ip, router_ip};
 
 use models::{Afi, IpAddr};
@@ -15,27 +14,25 @@ pub fn sixteen_at(s: &[u8], at: usize) -> [u8; 16]
     if wire::left(s, at) < 16 {
         return bytes;
     }
-    let mut i = 0;
-    while i < 16 {
-        bytes[i] = s[at + i];
-        i += 1;
-    }
+    bytes.copy_from_slice(&s[at..at + 16]);
     bytes
 }
 
 // The address that sixteen bytes of a BMP message show: an IPv4 address stands in the last four (RFC 7854, sections 4.2 and 4.10).
+// They are copied as one slice, and not by four stores: the compiler takes an array apart that is used at fixed places, octet by octet.
 pub fn shown_ip(afi: Afi, octets: [u8; 16]) -> IpAddr
     ensures { result ≡ shown_ip afi octets }
 {
     match afi {
-        Afi::Ipv4 => IpAddr {
-            octets: four_at(octets, 12),
-            afi: Afi::Ipv4,
-        },
-        Afi::Ipv6 => IpAddr {
-            octets: octets,
-            afi: Afi::Ipv6,
-        },
+        Afi::Ipv4 => {
+            let mut last_four = [0; 16];
+            last_four[12..].copy_from_slice(&octets[12..]);
+            IpAddr {
+                octets: last_four,
+                afi,
+            }
+        }
+        Afi::Ipv6 => IpAddr { octets, afi },
     }
 }
 
@@ -44,28 +41,14 @@ pub fn router_ip(afi: Afi, octets: [u8; 16]) -> IpAddr
     ensures { result ≡ router_ip afi octets }
 {
     match afi {
-        Afi::Ipv4 => IpAddr {
-            octets: four_at(octets, 0),
-            afi: Afi::Ipv4,
-        },
-        Afi::Ipv6 => IpAddr {
-            octets: octets,
-            afi: Afi::Ipv6,
-        },
+        Afi::Ipv4 => {
+            let mut first_four = [0; 16];
+            first_four[..4].copy_from_slice(&octets[..4]);
+            IpAddr {
+                octets: first_four,
+                afi,
+            }
+        }
+        Afi::Ipv6 => IpAddr { octets, afi },
     }
-}
-
-// Four of the octets, where they stand, and zeros for the others. A loop, and not four stores: the compiler takes an array apart
-// that is used at fixed places, octet by octet.
-fn four_at(octets: [u8; 16], at: usize) -> [u8; 16]
-    requires { at + 4 ≤ 16 }
-    ensures { result ≡ paste (replicate 16 0) at (drop at octets) 4 }
-{
-    let mut kept = [0; 16];
-    let mut i = 0;
-    while i < 4 {
-        kept[at + i] = octets[at + i];
-        i += 1;
-    }
-    kept
 }

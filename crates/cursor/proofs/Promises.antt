@@ -5,10 +5,9 @@ use Prim.Native.Nat.{ℕ, ◌+◌, ◌-◌, ◌≤◌, ◌<◌}
 use Rattle.wire.proofs.Determined.{determined}
 use Rattle.wire.specs.Bytes.{num_at}
 use Rattle.wire.specs.Refusal.{no_refusal, cut_at}
-use Rattle.cursor.specs.Read.{Read, read, cursor, refusal_of, value_of, next_of, as_u8, as_u16, as_u32, as_u64, from_u8, from_u16, from_u32, from_u64}
+use Rattle.cursor.specs.Read.{Read, read, cursor, refusal_of, value_of, next_of}
 use borrow.Author.Tests.{le-leb, lt-leb}
 use lib.ListN.{length}
-use Rattle.cursor.proofs.Reading.{tells8, tells16, tells32, tells64}
 
 -- Where as many bytes are left, the number is read and the cursor stands behind it; where fewer are, it is Cut at the cursor, and what is missing
 -- is its width less what is left.
@@ -17,12 +16,6 @@ pub read_says : (w : ℕ) (s : List ℕ) (at : ℕ)
     × (length s - at < w → refusal_of (read w s at) ≡ cut_at (length s) at w)
 read_says w s at = (λ h. rw (le-leb w (length s - at) h) (refl, refl, refl), λ h. rw (lt-leb w (length s - at) h))
 
--- The answer of each method, in one form, is that read.
-pub methods_say : (x : Read) → (from_u8 (as_u8 x) ≡ x) × (from_u16 (as_u16 x) ≡ x) × (from_u32 (as_u32 x) ≡ x) × (from_u64 (as_u64 x) ≡ x)
-methods_say x = (tells8 x refl, tells16 x refl, tells32 x refl, tells64 x refl)
-
--- Two answers of Cursor::read_u8, read_u16, read_u32 or read_u64 (w is 1, 2, 4 or 8 and form is as_u8, as_u16, as_u32 or as_u64)
--- for the same bytes and place are equal.
-pub read_determined : {R : Type 0} (form : Read → R) (w : ℕ) (s : List ℕ) (at : ℕ) (r q : R)
-    → r ≡ form (read w s at) → q ≡ form (read w s at) → r ≡ q
-read_determined form w s at r q = determined
+-- Two answers of Cursor::read_u8, read_u16, read_u32 or read_u64 (w is 1, 2, 4 or 8) for the same bytes and place are equal.
+pub read_determined : (w : ℕ) (s : List ℕ) (at : ℕ) (r q : Read) → r ≡ read w s at → q ≡ read w s at → r ≡ q
+read_determined w s at r q = determined

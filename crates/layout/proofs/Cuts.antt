@@ -4,15 +4,12 @@ use mathlib.Core.Bool.{Bool, true, false}
 use mathlib.Core.List.{List, [], ◌∷◌, ◌++◌}
 use Prim.Native.Nat.{ℕ, ◌+◌, ◌-◌, ◌≤◌, ◌<◌}
 use native.Mathlib.Omega.{arith}
-use native.Mathlib.Numerals.{add-one}
-use borrow.Author.Tests.{le-leb, lt-leb, leb-true}
+use borrow.Author.Tests.{le-leb, leb-true}
 use lib.Dec.{leb}
-use lib.ListN.{length, drop, get_or, drop_of_length-le}
-use lib.Seq.{drop-cons}
 use Rattle.wire.specs.Number as Number
 use Rattle.wire.specs.Bytes.{pick}
 use Rattle.wire.specs.Lacking.{total}
-use Rattle.wire.specs.Refusal.{no_refusal, cut_at}
+use Rattle.wire.specs.Refusal.{cut_at}
 use Rattle.wire.specs.Refuses.{OneOf}
 use Rattle.layout.specs.Layout.{cut_in}
 
@@ -46,14 +43,3 @@ front (w ∷ ws) after at n inside short = go (leb w (n - at)) refl (front ws af
 
 pub cut_among : (before ws after : List ℕ) (at n : ℕ) → total before ≡ at → at ≤ n → n < at + total ws → cut_in (before ++ (ws ++ after)) 0 n ≡ cut_in ws at n
 cut_among before ws after at n e inside short = skip before (ws ++ after) 0 at n (omega arith) inside ∙ front ws after at n inside short
-
--- of the fields from the i-th on, the i-th is cut, lies whole in the input, or there is none
-module _ (ws : List ℕ) (at i n : ℕ) where
-  pub cut : i < length ws → n - at < get_or ws i 0 → cut_in (drop i ws) at n ≡ cut_at n at (get_or ws i 0)
-  cut h k = rw (drop-cons ws i 0, lt-leb (get_or ws i 0) (n - at) k)
-
-  pub whole : i < length ws → get_or ws i 0 ≤ n - at → cut_in (drop i ws) at n ≡ cut_in (drop (i + 1) ws) (at + get_or ws i 0) n
-  whole h k = rw (drop-cons ws i 0, le-leb (get_or ws i 0) (n - at) k, add-one)
-
-  pub ended : length ws ≤ i → cut_in (drop i ws) at n ≡ no_refusal
-  ended h = rw (drop_of_length-le ws h)

@@ -2,28 +2,28 @@
 #![tactic(auto)]
 
 ghost use Rattle.std.specs.Prelude.{◌≡◌};
-ghost use Rattle.models.specs.Address.{same_address, same_afi, same_octets, unspecified};
+ghost use Rattle.models.specs.Address.{same_address, unspecified};
 ghost use Rattle.models.specs.Warnings.{count_ones};
 
 // An AS number, a BGP identifier and a distinguisher have a type each, so that no call takes one for another.
-#[derive(Clone, Copy)]
+#[derive(Clone, Copy, PartialEq, Eq, Debug)]
 pub struct Asn(pub u32);
 
-#[derive(Clone, Copy)]
+#[derive(Clone, Copy, PartialEq, Eq, Debug)]
 pub struct BgpIdentifier(pub u32);
 
-#[derive(Clone, Copy)]
+#[derive(Clone, Copy, PartialEq, Eq, Debug)]
 pub struct PeerDistinguisher(pub u64);
 
 // The family of an address.
-#[derive(Clone, Copy)]
+#[derive(Clone, Copy, PartialEq, Eq, Debug)]
 pub enum Afi {
     Ipv4,
     Ipv6,
 }
 
 // How wide the AS numbers are that a peer's messages carry: the A flag of RFC 7854, section 4.2.
-#[derive(Clone, Copy)]
+#[derive(Clone, Copy, PartialEq, Eq, Debug)]
 pub enum AsnLength {
     Bits16,
     Bits32,
@@ -31,7 +31,7 @@ pub enum AsnLength {
 
 // The sixteen octets stand as in the field that they come from, and those that the family has no use for are zero: a per-peer
 // header has an IPv4 address in the last four (RFC 7854, section 4.2).
-#[derive(Clone, Copy)]
+#[derive(Clone, Copy, PartialEq, Eq, Debug)]
 pub struct IpAddr {
     pub octets: [u8; 16],
     pub afi: Afi,
@@ -52,40 +52,8 @@ impl IpAddr {
     pub fn equals(self, other: IpAddr) -> bool
         ensures { result ≡ same_address self other }
     {
-        let afi = self.afi;
-        let other_afi = other.afi;
-        let octets = self.octets;
-        let other_octets = other.octets;
-        same_afi(afi, other_afi) && same_octets(octets, other_octets)
+        self == other
     }
-}
-
-fn same_afi(a: Afi, b: Afi) -> bool
-    ensures { result ≡ same_afi a b }
-{
-    match a {
-        Afi::Ipv4 => match b {
-            Afi::Ipv4 => true,
-            Afi::Ipv6 => false,
-        },
-        Afi::Ipv6 => match b {
-            Afi::Ipv4 => false,
-            Afi::Ipv6 => true,
-        },
-    }
-}
-
-fn same_octets(a: [u8; 16], b: [u8; 16]) -> bool
-    ensures { result ≡ same_octets a b }
-{
-    let mut i = 0;
-    while i < 16 {
-        if a[i] != b[i] {
-            return false;
-        }
-        i += 1;
-    }
-    true
 }
 
 // The five warnings, each a bit of one word (docs/RULES.md, "Warnings"); all are of a Loc-RIB.
@@ -105,5 +73,5 @@ pub const NO_TABLE_NAME: u32 = 16;
 pub fn warning_count(warnings: u32) -> u32
     ensures { result ≡ count_ones 32 warnings }
 {
-    u32::count_ones(warnings)
+    warnings.count_ones()
 }

@@ -1,67 +1,90 @@
 // Reading a number at a place.
 #![tactic(auto)]
 
-ghost use Rattle.std.specs.Prelude.{◌≡◌, ◌+◌, ◌≤◌, length};
-ghost use Rattle.wire.specs.Bytes.{num_at, number_at};
+ghost use Rattle.std.specs.Prelude.{◌≡◌, ◌+◌, ◌≤◌, ◌<◌, ℕ, length, take, drop, MatchOption};
+ghost use Rattle.wire.specs.Bytes.{number_at};
 
-// The big-endian number at a place where all of its bytes are there.
-fn two(s: &[u8], at: usize) -> u16
-    requires { at + 2 ≤ length s.now }
-    ensures { result ≡ num_at 2 s.now at }
-{
-    (s[at] as u16) * 256 + (s[at + 1] as u16)
+// A number as the wire has it: so many bytes, the most significant first.
+pub trait WireNumber: Copy {
+    const WIDTH: usize;
+
+    ghost WIDTH: { ℕ };
+
+    ghost value: { Self → ℕ };
+
+    // The number at a place, 0 where not all of its bytes are there.
+    fn read_at(s: &[u8], at: usize) -> Self
+        ensures { value result ≡ number_at WIDTH s.now at };
 }
 
-fn four(s: &[u8], at: usize) -> u32
-    requires { at + 4 ≤ length s.now }
-    ensures { result ≡ num_at 4 s.now at }
+// The N bytes at a place, where all of them are there.
+pub fn bytes_at<const N: usize>(s: &[u8], at: usize) -> Option<&[u8; N]>
+    ensures { MatchOption result (length s.now < at + N) (λ bytes. (at + N ≤ length s.now) × (bytes.now ≡ take N (drop at s.now))) }
 {
-    (two(s, at) as u32) * 65_536 + (two(s, at + 2) as u32)
+    let (bytes, _) = s.get(at..)?.split_first_chunk::<N>()?;
+    Some(bytes)
 }
 
-fn eight(s: &[u8], at: usize) -> u64
-    requires { at + 8 ≤ length s.now }
-    ensures { result ≡ num_at 8 s.now at }
-{
-    (four(s, at) as u64) * 4_294_967_296 + (four(s, at + 4) as u64)
-}
+impl WireNumber for u8 {
+    const WIDTH: usize = 1;
 
-// The byte at a place, 0 where there is none.
-pub fn u8_at(s: &[u8], at: usize) -> u8
-    ensures { result ≡ number_at 1 s.now at }
-{
-    if wire::left(s, at) < 1 {
-        return 0;
+    ghost WIDTH = { 1 };
+
+    ghost value = { λ n. n };
+
+    #[tactic(auto, using(crate::proofs::Bytes::read_1))]
+    fn read_at(s: &[u8], at: usize) -> u8 {
+        match bytes_at::<1>(s, at) {
+            Some(bytes) => u8::from_be_bytes(*bytes),
+            None => 0,
+        }
     }
-    s[at]
 }
 
-// The number of two bytes at a place, 0 where not both are there.
-pub fn u16_at(s: &[u8], at: usize) -> u16
-    ensures { result ≡ number_at 2 s.now at }
-{
-    if wire::left(s, at) < 2 {
-        return 0;
+impl WireNumber for u16 {
+    const WIDTH: usize = 2;
+
+    ghost WIDTH = { 2 };
+
+    ghost value = { λ n. n };
+
+    #[tactic(auto, using(crate::proofs::Bytes::read_2))]
+    fn read_at(s: &[u8], at: usize) -> u16 {
+        match bytes_at::<2>(s, at) {
+            Some(bytes) => u16::from_be_bytes(*bytes),
+            None => 0,
+        }
     }
-    two(s, at)
 }
 
-// The number of four bytes at a place, 0 where not all of them are there.
-pub fn u32_at(s: &[u8], at: usize) -> u32
-    ensures { result ≡ number_at 4 s.now at }
-{
-    if wire::left(s, at) < 4 {
-        return 0;
+impl WireNumber for u32 {
+    const WIDTH: usize = 4;
+
+    ghost WIDTH = { 4 };
+
+    ghost value = { λ n. n };
+
+    #[tactic(auto, using(crate::proofs::Bytes::read_4))]
+    fn read_at(s: &[u8], at: usize) -> u32 {
+        match bytes_at::<4>(s, at) {
+            Some(bytes) => u32::from_be_bytes(*bytes),
+            None => 0,
+        }
     }
-    four(s, at)
 }
 
-// The number of eight bytes at a place, 0 where not all of them are there.
-pub fn u64_at(s: &[u8], at: usize) -> u64
-    ensures { result ≡ number_at 8 s.now at }
-{
-    if wire::left(s, at) < 8 {
-        return 0;
+impl WireNumber for u64 {
+    const WIDTH: usize = 8;
+
+    ghost WIDTH = { 8 };
+
+    ghost value = { λ n. n };
+
+    #[tactic(auto, using(crate::proofs::Bytes::read_8))]
+    fn read_at(s: &[u8], at: usize) -> u64 {
+        match bytes_at::<8>(s, at) {
+            Some(bytes) => u64::from_be_bytes(*bytes),
+            None => 0,
+        }
     }
-    eight(s, at)
 }

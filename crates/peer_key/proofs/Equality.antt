@@ -1,9 +1,8 @@
--- The test of two keys, part by part: one that differs decides, and where none does it is true. Assumes nothing.
-use mathlib.Core.Bool.{true, false, and-false, and-eq-true_iff}
+-- The test of two keys is true of equal ones and of no others. Assumes nothing.
+use mathlib.Core.Bool.{true, and-eq-true_iff}
 use mathlib.Core.Path.{◌≡◌, refl}
-use borrow.Author.Tests.{eq-eqb, ne_eqb, eqb-true}
+use borrow.Author.Tests.{eq-eqb, eqb-true}
 use lib.Dec.{eqb}
-use Rattle.models.specs.Address.{same_address}
 use Rattle.models.proofs.Promises.{equals_is_equality}
 use Rattle.per_peer_type.specs.Peer.{kind_of}
 use Rattle.per_peer_type.proofs.Promises.{number_tells}
@@ -11,28 +10,6 @@ use Rattle.peer_key.specs.Key.{same_key, address_of}
 use Rattle.peer_key.specs.declared.PeerKey.{PeerKey}
 
 module _ (a b : PeerKey) where
-  pub other_distinguisher : (a.peer_distinguisher.0 ≡ b.peer_distinguisher.0 → ⊥) → same_key a b ≡ false
-  unfolding same_key
-  other_distinguisher h = rw (ne_eqb a.peer_distinguisher.0 b.peer_distinguisher.0 h)
-
-  pub other_id : (a.peer_bgp_id.0 ≡ b.peer_bgp_id.0 → ⊥) → same_key a b ≡ false
-  unfolding same_key
-  other_id h = simp (ne_eqb a.peer_bgp_id.0 b.peer_bgp_id.0 h, and-false)
-
-  pub other_type : (kind_of a.peer_type ≡ kind_of b.peer_type → ⊥) → same_key a b ≡ false
-  unfolding same_key
-  other_type h = simp (ne_eqb (kind_of a.peer_type) (kind_of b.peer_type) h, and-false)
-
-  pub by_address : a.peer_distinguisher.0 ≡ b.peer_distinguisher.0 → a.peer_bgp_id.0 ≡ b.peer_bgp_id.0
-      → kind_of a.peer_type ≡ kind_of b.peer_type → same_key a b ≡ same_address (address_of a) (address_of b)
-  unfolding same_key
-  by_address d i t =
-      rw (
-        eq-eqb a.peer_distinguisher.0 b.peer_distinguisher.0 d,
-        eq-eqb a.peer_bgp_id.0 b.peer_bgp_id.0 i,
-        eq-eqb (kind_of a.peer_type) (kind_of b.peer_type) t,
-      )
-
   pub keys_equal : same_key a b ≡ true → a ≡ b
   unfolding same_key
   keys_equal e =

@@ -1,12 +1,12 @@
 -- What a user of the crate relies on. Assumes nothing.
 use mathlib.Core.Bool.{Bool, true, false, ◌&&◌, and-eq-true_iff}
 use mathlib.Core.Logic.{◌↔◌}
-use mathlib.Core.Path.{◌≡◌, refl, ap, ◌∙◌}
-use Prim.Native.Nat.{ℕ}
-use native.Mathlib.Omega.{arith}
+use mathlib.Core.Path.{◌≡◌, refl, ap}
 use borrow.Author.Tests.{eqb-true, eq-eqb}
 use lib.Dec.{eqb}
-use lib.Ieee.{eq}
+use lib.Ieee.{Float, eq}
+use Rattle.std.specs.declared.option.Option.{Option}
+use Rattle.std.specs.declared.option.Option.TheVariants.{Some, None}
 use Rattle.wire.specs.Bytes.{pick}
 use Rattle.wire.proofs.Determined.{determined}
 use Rattle.models.specs.Address.{same_address}
@@ -17,9 +17,6 @@ use Rattle.per_peer_type.specs.Peer.{kind_of}
 use Rattle.per_peer_type.proofs.Promises.{number_tells}
 use Rattle.per_peer_record.specs.Header.{afi_of, asn_length_of, peer_time, same_header, stripped}
 use Rattle.per_peer_record.specs.declared.BmpPerPeerHeader.{BmpPerPeerHeader}
-use Rattle.per_peer_record.specs.declared.PeerTime.{PeerTime}
-use Rattle.per_peer_record.specs.declared.PeerTime.TheVariants.{Unavailable, At}
-use Rattle.per_peer_record.proofs.Equality.{same_but_time}
 
 -- ---- equality
 -- six fields are the same, and `==` finds the times equal
@@ -56,26 +53,32 @@ equals_is_equal a b = (equal, same)
 
     same : Equal a b → same_header a b ≡ true
     same s =
-        same_but_time a b (ap kind_of s.types) s.flags s.distinguishers ((equals_is_equality a.peer_ip b.peer_ip).1 s.addresses)
-        s.asns s.ids
-        ∙ s.times
+        rw (
+          eq-eqb (kind_of a.peer_type) (kind_of b.peer_type) (ap kind_of s.types),
+          eq-eqb a.peer_flags.0 b.peer_flags.0 s.flags,
+          eq-eqb a.peer_distinguisher.0 b.peer_distinguisher.0 s.distinguishers,
+          (equals_is_equality a.peer_ip b.peer_ip).1 s.addresses,
+          eq-eqb a.peer_asn.0 b.peer_asn.0 s.asns,
+          eq-eqb a.peer_bgp_id.0 b.peer_bgp_id.0 s.ids,
+        )
+        s.times
 
 -- ---- the peer's time
--- It is unavailable exactly when both words are zero.
-pub unavailable_is_zero : (h : BmpPerPeerHeader) → (peer_time h ≡ Unavailable) ↔ ((h.seconds ≡ 0) × (h.microseconds ≡ 0))
+-- There is none exactly when both words are zero.
+pub unavailable_is_zero : (h : BmpPerPeerHeader) → (peer_time h ≡ None) ↔ ((h.seconds ≡ 0) × (h.microseconds ≡ 0))
 unavailable_is_zero h = (zeros (eqb h.seconds 0) refl (eqb h.microseconds 0) refl, none)
   where
     zeros : (a : Bool) → eqb h.seconds 0 ≡ a → (b : Bool) → eqb h.microseconds 0 ≡ b
-        → pick (a && b) Unavailable (At h.timestamp) ≡ Unavailable → (h.seconds ≡ 0) × (h.microseconds ≡ 0)
+        → ◌≡◌ {A = Option Float} (pick (a && b) None (Some h.timestamp)) None → (h.seconds ≡ 0) × (h.microseconds ≡ 0)
     zeros true ha true hb e = (eqb-true h.seconds 0 ha, eqb-true h.microseconds 0 hb)
-    zeros true ha false hb e = let z : ◌≡◌ {A = ℕ} 0 1 = cc in absurd (omega arith)
-    zeros false ha b hb e = let z : ◌≡◌ {A = ℕ} 0 1 = cc in absurd (omega arith)
+    zeros true ha false hb e = cc
+    zeros false ha b hb e = cc
 
-    none : (h.seconds ≡ 0) × (h.microseconds ≡ 0) → peer_time h ≡ Unavailable
+    none : (h.seconds ≡ 0) × (h.microseconds ≡ 0) → peer_time h ≡ None
     none z = rw (eq-eqb h.seconds 0 z.0, eq-eqb h.microseconds 0 z.1)
 
 -- A stripped header has no time.
-pub stripped_is_unavailable : (h : BmpPerPeerHeader) → peer_time (stripped h) ≡ Unavailable
+pub stripped_is_unavailable : (h : BmpPerPeerHeader) → peer_time (stripped h) ≡ None
 stripped_is_unavailable h = refl
 
 -- ---- any two answers that the contracts allow are equal
@@ -86,7 +89,7 @@ module _ (h : BmpPerPeerHeader) where
   pub asn_length_determined : (r q : AsnLength) → r ≡ asn_length_of h → q ≡ asn_length_of h → r ≡ q
   asn_length_determined r q = determined
 
-  pub peer_time_determined : (r q : PeerTime) → r ≡ peer_time h → q ≡ peer_time h → r ≡ q
+  pub peer_time_determined : (r q : Option Float) → r ≡ peer_time h → q ≡ peer_time h → r ≡ q
   peer_time_determined r q = determined
 
   pub equals_determined : (other : BmpPerPeerHeader) (r q : Bool) → r ≡ same_header h other → q ≡ same_header h other → r ≡ q

@@ -1,5 +1,5 @@
 -- What is asked of a per-peer header.
-use Rattle.std.specs.Prelude.{Bool, ◌&&◌, eqb}
+use Rattle.std.specs.Prelude.{Bool, ◌&&◌, Option, Some, None, Float, eqb}
 use Rattle.std.specs.Float.Ieee.{eq, of_bits}
 use Rattle.std.specs.Float.{binary64}
 use Rattle.wire.specs.Bytes.{pick}
@@ -9,8 +9,6 @@ use Rattle.models.specs.declared.AsnLength.{AsnLength}
 use Rattle.models.specs.declared.AsnLength.TheVariants.{Bits32}
 use Rattle.per_peer_type.specs.Peer.{kind_of, is_loc_rib, asn_length}
 use Rattle.per_peer_record.specs.declared.BmpPerPeerHeader.{BmpPerPeerHeader}
-use Rattle.per_peer_record.specs.declared.PeerTime.{PeerTime}
-use Rattle.per_peer_record.specs.declared.PeerTime.TheVariants.{Unavailable, At}
 
 abbrev pub afi_of : BmpPerPeerHeader → Afi
 afi_of h = h.peer_ip.afi
@@ -20,8 +18,8 @@ abbrev pub asn_length_of : BmpPerPeerHeader → AsnLength
 asn_length_of h = pick (is_loc_rib (kind_of h.peer_type)) Bits32 (asn_length h.peer_flags.0)
 
 -- a timestamp of zero means that the time is unavailable (RFC 7854, section 4.2)
-abbrev pub peer_time : BmpPerPeerHeader → PeerTime
-peer_time h = pick (eqb h.seconds 0 && eqb h.microseconds 0) Unavailable (At h.timestamp)
+abbrev pub peer_time : BmpPerPeerHeader → Option Float
+peer_time h = pick (eqb h.seconds 0 && eqb h.microseconds 0) None (Some h.timestamp)
 
 -- seven fields are compared, the time among them as a number; the two words are not
 abbrev pub same_header : BmpPerPeerHeader → BmpPerPeerHeader → Bool

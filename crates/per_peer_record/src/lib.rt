@@ -21,85 +21,62 @@ pub struct BmpPerPeerHeader {
     pub microseconds: u32,
 }
 
-// The time of a header, or that the router does not know it: both words zero (RFC 7854, section 4.2).
-#[derive(Clone, Copy)]
-pub enum PeerTime {
-    Unavailable,
-    At(f64),
-}
-
 impl BmpPerPeerHeader {
     // The family of the address that the header shows.
     pub fn afi(self) -> Afi
         ensures { result ≡ afi_of self }
     {
-        let peer_ip = self.peer_ip;
-        peer_ip.afi
+        self.peer_ip.afi
     }
 
     // How wide the AS numbers are; a Loc-RIB has no A flag, and they are wide.
+    #[tactic(auto, using(per_peer_type::proofs::Flags::loc_rib_compared))]
     pub fn asn_length(self) -> AsnLength
         ensures { result ≡ asn_length_of self }
     {
-        let peer_type = self.peer_type;
-        if peer_type.number() == per_peer_type::LOCAL_RIB {
-            return AsnLength::Bits32;
+        if self.peer_type == BmpPeerType::LocalRib {
+            AsnLength::Bits32
+        } else {
+            self.peer_flags.asn_length()
         }
-        let peer_flags = self.peer_flags;
-        peer_flags.asn_length()
     }
 
-    // The time, or that there is none: both words are zero. The words decide and not the f64, which -0.0 would fool.
-    pub fn peer_time(self) -> PeerTime
+    // The time, or none where the router does not know it: both words are zero (RFC 7854, section 4.2). The words decide and not the
+    // f64, which -0.0 would fool.
+    pub fn peer_time(self) -> Option<f64>
         ensures { result ≡ peer_time self }
     {
-        if self.seconds != 0 {
-            return PeerTime::At(self.timestamp);
+        if self.seconds == 0 && self.microseconds == 0 {
+            None
+        } else {
+            Some(self.timestamp)
         }
-        if self.microseconds != 0 {
-            return PeerTime::At(self.timestamp);
-        }
-        PeerTime::Unavailable
     }
 
     // Whether type, flags, distinguisher, address, AS, BGP identifier and time are the same. The words that the time comes from are not
     // compared, since the Rust has none.
+    #[tactic(auto, using(per_peer_type::proofs::Flags::types_compared))]
     pub fn equals(self, other: BmpPerPeerHeader) -> bool
         ensures { result ≡ same_header self other }
     {
-        let peer_type = self.peer_type;
-        let other_type = other.peer_type;
-        let peer_ip = self.peer_ip;
-        let other_ip = other.peer_ip;
-        if peer_type.number() != other_type.number() {
-            return false;
-        }
-        if self.peer_flags.0 != other.peer_flags.0 {
-            return false;
-        }
-        if self.peer_distinguisher.0 != other.peer_distinguisher.0 {
-            return false;
-        }
-        if !peer_ip.equals(other_ip) {
-            return false;
-        }
-        if self.peer_asn.0 != other.peer_asn.0 {
-            return false;
-        }
-        if self.peer_bgp_id.0 != other.peer_bgp_id.0 {
-            return false;
-        }
-        self.timestamp == other.timestamp
+        self.peer_type == other.peer_type
+            && self.peer_flags == other.peer_flags
+            && self.peer_distinguisher == other.peer_distinguisher
+            && self.peer_ip == other.peer_ip
+            && self.peer_asn == other.peer_asn
+            && self.peer_bgp_id == other.peer_bgp_id
+            && self.timestamp == other.timestamp
     }
 
     // The same header with the time and both of its words zero, to compare headers whose times do not matter.
     pub fn strip_timestamp(self) -> BmpPerPeerHeader
         ensures { result ≡ stripped self }
     {
-        let mut header = self;
-        header.timestamp = 0.0;
-        header.seconds = 0;
-        header.microseconds = 0;
-        header
+        BmpPerPeerHeader {
+            timestamp: 0.0,
+            seconds: 0,
+            microseconds: 0,
+            ..self
+        }
     }
 }

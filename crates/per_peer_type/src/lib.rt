@@ -7,7 +7,7 @@ ghost use Rattle.per_peer_type.specs.Peer.{type_of, kind_of, flag_l, flag_o, fla
 use models::{Afi, AsnLength};
 
 // The types of peers, by their numbers from 0 on.
-#[derive(Clone, Copy)]
+#[derive(Clone, Copy, PartialEq, Eq, Debug)]
 pub enum BmpPeerType {
     Global,
     RD,
@@ -20,6 +20,7 @@ pub const LOCAL_RIB: u8 = 3;
 
 impl BmpPeerType {
     // The number that stands for the type on the wire.
+    #[tactic(auto, unfolding(crate::specs::Peer::kind_of))]
     pub fn number(self) -> u8
         ensures { result ≡ kind_of self }
     {
@@ -33,6 +34,7 @@ impl BmpPeerType {
 }
 
 // The name of a type by its number; a number above the last is refused before it is named, and has the last name.
+#[tactic(auto, unfolding(crate::specs::Peer::type_of))]
 pub fn type_of(kind: u8) -> BmpPeerType
     ensures { result ≡ type_of kind }
 {
@@ -46,7 +48,7 @@ pub fn type_of(kind: u8) -> BmpPeerType
 
 // The flags as they stand in the header, with the bits that have no meaning. What a bit means depends on the type of the peer: V, L, A
 // and O are of types 0 to 2, F is of a Loc-RIB.
-#[derive(Clone, Copy)]
+#[derive(Clone, Copy, PartialEq, Eq, Debug)]
 pub struct PerPeerFlags(pub u8);
 
 const ADDRESS_FAMILY_IPV6: u8 = 0b1000_0000;
@@ -65,9 +67,10 @@ impl PerPeerFlags {
         ensures { result ≡ address_family self.0 }
     {
         if self.0 & ADDRESS_FAMILY_IPV6 != 0 {
-            return Afi::Ipv6;
+            Afi::Ipv6
+        } else {
+            Afi::Ipv4
         }
-        Afi::Ipv4
     }
 
     // The L flag: whether the routes are those after the policy.
@@ -82,9 +85,10 @@ impl PerPeerFlags {
         ensures { result ≡ asn_length self.0 }
     {
         if self.0 & AS_SIZE_16BIT != 0 {
-            return AsnLength::Bits16;
+            AsnLength::Bits16
+        } else {
+            AsnLength::Bits32
         }
-        AsnLength::Bits32
     }
 
     // The O flag: whether the routes are those of the Adj-RIB-Out (RFC 8671, section 4).

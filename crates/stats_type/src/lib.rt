@@ -52,6 +52,7 @@ pub enum StatType {
 }
 
 // The name of a type, by its number.
+#[tactic(auto, unfolding(crate::specs::Shown::type_of, crate::specs::Shown::names))]
 pub fn type_of(kind: u16) -> StatType
     ensures { result ≡ type_of kind }
 {
@@ -64,6 +65,7 @@ pub fn type_of(kind: u16) -> StatType
 }
 
 // The names up to the gap: what is left for the last arm is 23.
+#[tactic(auto, unfolding(crate::specs::Shown::type_of, crate::specs::Shown::names))]
 fn type_below_gap(kind: u16) -> StatType
     requires { kind ≤ 23 }
     ensures { result ≡ type_of kind }
@@ -97,6 +99,7 @@ fn type_below_gap(kind: u16) -> StatType
 }
 
 // The names from the gap on: what is left for the last arm is 43.
+#[tactic(auto, unfolding(crate::specs::Shown::type_of, crate::specs::Shown::names))]
 fn type_above_gap(kind: u16) -> StatType
     requires le_kind { 26 ≤ kind }
     requires kind_bound { kind ≤ 43 }
@@ -125,6 +128,7 @@ fn type_above_gap(kind: u16) -> StatType
 }
 
 // The number that stands for a type on the wire.
+#[tactic(auto, unfolding(crate::specs::Shown::kind_of))]
 pub fn kind_of(stat_type: StatType) -> u16
     ensures { result ≡ kind_of stat_type }
 {

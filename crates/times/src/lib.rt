@@ -18,8 +18,5 @@ pub fn is_timestamp(t: f64, seconds: u32, microseconds: u32) -> bool
     ensures { result ≡ is_timestamp t seconds microseconds }
 {
     let given = timestamp(seconds, microseconds);
-    if t == given {
-        return f64::to_bits(t) == f64::to_bits(given);
-    }
-    false
+    t == given && t.to_bits() == given.to_bits()
 }

@@ -11,20 +11,20 @@ use Rattle.wire.specs.Bytes.{pick}
 use Rattle.wire.specs.Refusal.{lacking, cut_at, need_at}
 use Rattle.wire.specs.Walk.{from}
 use Rattle.wire.specs.declared.Refusal.{Refusal}
-use Rattle.wire.specs.declared.Need.{Need}
-use Rattle.wire.specs.declared.Need.TheVariants.{Met, Cut}
+use Rattle.std.specs.declared.result.Result.{Result}
+use Rattle.std.specs.declared.result.Result.TheVariants.{Ok, Err}
 
 module _ (n at w : ℕ) where
-  pub is_met : w ≤ n - at → Met ≡ need_at n at w
+  pub is_met : w ≤ n - at → Ok tt ≡ need_at n at w
   is_met h = sym (rw (le-leb w (n - at) h))
 
-  pub is_cut : {r : Refusal} → n - at < w → r ≡ cut_at n at w → Cut r ≡ need_at n at w
-  is_cut h e = (λ i. Cut (e i)) ∙ sym (rw (lt-leb w (n - at) h))
+  pub is_cut : {r : Refusal} → n - at < w → r ≡ cut_at n at w → Err r ≡ need_at n at w
+  is_cut h e = (λ i. Err (e i)) ∙ sym (rw (lt-leb w (n - at) h))
 
-  pub was_met : {x : Need} → x ≡ Met → x ≡ need_at n at w → w ≤ n - at
+  pub was_met : {x : Result (Unit {0}) Refusal} → x ≡ Ok tt → x ≡ need_at n at w → w ≤ n - at
   was_met {x} e f = go (leb w (n - at)) refl (sym e ∙ f)
     where
-      go : (b : Bool) → leb w (n - at) ≡ b → Met ≡ pick b Met (Cut (cut_at n at w)) → w ≤ n - at
+      go : (b : Bool) → leb w (n - at) ≡ b → ◌≡◌ {A = Result (Unit {0}) Refusal} (Ok tt) (pick b (Ok tt) (Err (cut_at n at w))) → w ≤ n - at
       go true h q = leb-true w (n - at) h
       go false h q = let z : ◌≡◌ {A = ℕ} 0 1 = cc in absurd (omega arith)
 
@@ -33,10 +33,10 @@ module _ (n at w : ℕ) where
     pub few : n - at < w
     pub cut_is : r ≡ cut_at n at w
 
-  pub was_cut : {x : Need} {r : Refusal} → x ≡ Cut r → x ≡ need_at n at w → Lacked r
+  pub was_cut : {x : Result (Unit {0}) Refusal} {r : Refusal} → x ≡ Err r → x ≡ need_at n at w → Lacked r
   was_cut {x} {r} e f = go (leb w (n - at)) refl (sym e ∙ f)
     where
-      go : (b : Bool) → leb w (n - at) ≡ b → Cut r ≡ pick b Met (Cut (cut_at n at w)) → Lacked r
+      go : (b : Bool) → leb w (n - at) ≡ b → ◌≡◌ {A = Result (Unit {0}) Refusal} (Err r) (pick b (Ok tt) (Err (cut_at n at w))) → Lacked r
       go true h q = let z : ◌≡◌ {A = ℕ} 0 1 = cc in absurd (omega arith)
       go false h q = record { few = leb-false w (n - at) h; cut_is = cc }
 

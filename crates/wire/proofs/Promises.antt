@@ -9,7 +9,7 @@ use Rattle.wire.specs.Bytes.{be, value, Bytes}
 use Rattle.wire.specs.Refusal.{refusal, no_refusal, need_at}
 use Rattle.wire.specs.View.{inside, no_view, viewed}
 use Rattle.wire.specs.declared.Refusal.{Refusal}
-use Rattle.wire.specs.declared.Need.{Need}
+use Rattle.std.specs.declared.result.Result.{Result}
 use Rattle.wire.specs.declared.View.{View}
 use Rattle.wire.proofs.Determined.{determined}
 use Rattle.wire.proofs.Bytes.{value_be, be_value}
@@ -29,7 +29,7 @@ pub no_view_determined : (r q : View) → r ≡ no_view → q ≡ no_view → r 
 no_view_determined r q = determined
 
 -- Two answers of need_at for the same length, place and count are equal.
-pub need_at_determined : (there at count : ℕ) (r q : Need) → r ≡ need_at there at count → q ≡ need_at there at count → r ≡ q
+pub need_at_determined : (there at count : ℕ) (r q : Result (Unit {0}) Refusal) → r ≡ need_at there at count → q ≡ need_at there at count → r ≡ q
 need_at_determined there at count r q = determined
 
 -- Two answers of left for the same bytes and place are equal.

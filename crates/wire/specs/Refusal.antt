@@ -1,10 +1,8 @@
 -- A refusal: a number, the place of the field at fault, and how many bytes it lacks (docs/RULES.md, "Numbers" and "What a Cut lacks").
-use Rattle.std.specs.Prelude.{ℕ, ◌-◌, leb}
+use Rattle.std.specs.Prelude.{ℕ, ◌-◌, leb, Result, Ok, Err}
 use Rattle.wire.specs.Number as Number
 use Rattle.wire.specs.Bytes.{pick}
 use Rattle.wire.specs.declared.Refusal.{Refusal}
-use Rattle.wire.specs.declared.Need.{Need}
-use Rattle.wire.specs.declared.Need.TheVariants.{Met, Cut}
 
 -- a number other than Cut, at a place: no byte is missing
 abbrev pub refusal : ℕ → ℕ → Refusal
@@ -22,6 +20,6 @@ lacking p m = record { number = Number.Cut; place = p; missing = m }
 abbrev pub cut_at : ℕ → ℕ → ℕ → Refusal
 cut_at n at w = lacking at (w - (n - at))
 
--- of an input of n bytes, w are needed at a place
-abbrev pub need_at : ℕ → ℕ → ℕ → Need
-need_at n at w = pick (leb w (n - at)) Met (Cut (cut_at n at w))
+-- of an input of n bytes, w are needed at a place: they are there, or it is cut
+abbrev pub need_at : ℕ → ℕ → ℕ → Result (Unit {0}) Refusal
+need_at n at w = pick (leb w (n - at)) (Ok tt) (Err (cut_at n at w))

@@ -73,13 +73,6 @@ pub struct Refusal {
     pub missing: usize,
 }
 
-// Whether the bytes that a field needs are there, or the Cut that says they are not.
-#[derive(Clone, Copy)]
-pub enum Need {
-    Met,
-    Cut(Refusal),
-}
-
 // A place and a length in a buffer.
 #[derive(Clone, Copy)]
 pub struct View {
@@ -92,8 +85,8 @@ pub fn refusal_at(number: u8, place: usize) -> Refusal
     ensures { result ≡ refusal number place }
 {
     Refusal {
-        number: number,
-        place: place,
+        number,
+        place,
         missing: 0,
     }
 }
@@ -117,19 +110,19 @@ pub fn no_view() -> View
 
 // Whether so many bytes are there at a place of an input of this length. Every Cut is made here, where the bytes are counted, and
 // the readers hand it on.
-pub fn need_at(there: usize, at: usize, count: usize) -> Need
+pub fn need_at(there: usize, at: usize, count: usize) -> Result<(), Refusal>
     ensures { result ≡ need_at there at count }
 {
     let left = rest(there, at);
     if left < count {
         let missing = count - left;
-        return Need::Cut(Refusal {
+        return Err(Refusal {
             number: CUT,
             place: at,
-            missing: missing,
+            missing,
         });
     }
-    Need::Met
+    Ok(())
 }
 
 // How many bytes are left from a place on.

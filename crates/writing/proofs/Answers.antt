@@ -13,10 +13,9 @@ use Rattle.wire.specs.Number as Number
 use Rattle.wire.specs.Bytes.{pick}
 use Rattle.wire.specs.Refusal.{refusal}
 use Rattle.wire.proofs.Determined.{determined}
-use Rattle.writing.specs.Write.{length_of, write_answer, after, Wrote}
+use Rattle.writing.specs.Write.{WriteAnswer, length_of, write_answer, after, Wrote}
 use Rattle.wire.specs.declared.Refusal.{Refusal}
-use Rattle.writing.specs.declared.WriteAnswer.{WriteAnswer}
-use Rattle.writing.specs.declared.WriteAnswer.TheVariants.{Written, Refused}
+use Rattle.std.specs.declared.result.Result.TheVariants.{Ok, Err}
 
 -- ---- when a writer writes
 pub record Writes (ok : Bool) (n room k : ℕ) : Type 0 where
@@ -25,21 +24,21 @@ pub record Writes (ok : Bool) (n room k : ℕ) : Type 0 where
   pub fits : n ≤ room
   pub length_is : k ≡ n
 
-pub writes : (ok : Bool) (n room k : ℕ) → Written k ≡ write_answer ok n room → Writes ok n room k
+pub writes : (ok : Bool) (n room k : ℕ) → Ok k ≡ write_answer ok n room → Writes ok n room k
 writes ok n room k e = go ok refl (ltb Number.limit n) refl (ltb room n) refl e
   where
-    no : {r : Refusal} → Written k ≡ Refused r → Writes ok n room k
+    no : {r : Refusal} → Ok k ≡ Err r → Writes ok n room k
     no q = let z : ◌≡◌ {A = ℕ} 0 1 = cc in absurd (omega arith)
 
     go : (a : Bool) → ok ≡ a → (b : Bool) → ltb Number.limit n ≡ b → (d : Bool) → ltb room n ≡ d
-        → Written k ≡ pick a (pick b (Refused (refusal Number.TooLong 0)) (pick d (Refused (refusal Number.NoRoom 0)) (Written n))) (Refused (refusal Number.BadField 0))
+        → Ok k ≡ pick a (pick b (Err (refusal Number.TooLong 0)) (pick d (Err (refusal Number.NoRoom 0)) (Ok n))) (Err (refusal Number.BadField 0))
         → Writes ok n room k
     go false ha b hb d hd q = no q
     go true ha true hb d hd q = no q
     go true ha false hb true hd q = no q
     go true ha false hb false hd q = record { is_ok = ha; short = ltb-false _ _ hb; fits = ltb-false _ _ hd; length_is = cc }
 
-pub does_write : (ok : Bool) (n room : ℕ) → ok ≡ true → n ≤ Number.limit → n ≤ room → write_answer ok n room ≡ Written n
+pub does_write : (ok : Bool) (n room : ℕ) → ok ≡ true → n ≤ Number.limit → n ≤ room → write_answer ok n room ≡ Ok n
 does_write ok n room e short fits = rw (e, le-ltb Number.limit n short, le-ltb room n fits)
 
 -- ---- a writer that asked for the answer a by the length n, which is that of the bytes s where the record is ok
@@ -51,10 +50,10 @@ module _ (ok : Bool) (s out : List ℕ) (n : ℕ) (long : ok ≡ true → length
       go true e = rw (long e)
       go false e = rw e
 
-  pub left_alone : (r : Refusal) → a ≡ Refused r → Wrote ok s out a out
+  pub left_alone : (r : Refusal) → a ≡ Err r → Wrote ok s out a out
   left_alone r e = record { answered = answered; left = ap (λ (x : WriteAnswer). after x s out) (sym e ∙ answered) }
 
-  module _ (k : ℕ) (e : a ≡ Written k) where
+  module _ (k : ℕ) (e : a ≡ Ok k) where
     pub wrote : Writes ok (length s) (length out) k
     wrote = writes ok (length s) (length out) k (sym e ∙ answered)
 
@@ -67,17 +66,13 @@ module _ (ok : Bool) (s out : List ℕ) (n : ℕ) (long : ok ≡ true → length
 
 -- ---- a writer that had room put its bytes in front of the output, so what holds of them holds of what stands there
 pub front : (P : List ℕ → Type 0) {ok : Bool} {s out out' : List ℕ} {r : WriteAnswer} → Wrote ok s out r out'
-    → ok ≡ true → length s ≤ Number.limit → length s ≤ length out → P s → (r ≡ Written (length s)) × P (take (length_of r) out')
+    → ok ≡ true → length s ≤ Number.limit → length s ≤ length out → P s → (r ≡ Ok (length s)) × P (take (length_of r) out')
 front P {ok} {s} {out} {out'} {r} wrote w short fits holds =
-    let a : write_answer ok (length s) (length out) ≡ Written (length s) = does_write ok (length s) (length out) w short fits in
-    let e : r ≡ Written (length s) = wrote.answered ∙ a in
+    let a : write_answer ok (length s) (length out) ≡ Ok (length s) = does_write ok (length s) (length out) w short fits in
+    let e : r ≡ Ok (length s) = wrote.answered ∙ a in
     let o : out' ≡ s ++ drop (length s) out = wrote.left ∙ ap (λ (x : WriteAnswer). after x s out) a in
     let there : take (length_of r) out' ≡ s = rw (e, o) (take_at s (drop (length s) out) (length s) refl) in
     (e, subst P (sym there) holds)
-
--- ---- a writer whose record is not ok
-pub refused_so : {ok : Bool} {s out : List ℕ} {a : WriteAnswer} → ok ≡ false → a ≡ write_answer false 0 (length out) → Wrote ok s out a out
-refused_so e asked = record { answered = asked ∙ sym (rw e); left = rw e }
 
 -- ---- any two answers, and any two outputs, of one writer for the same record and output
 pub wrote_determined : {ok : Bool} {s out : List ℕ} {r q : WriteAnswer} {o p : List ℕ} → Wrote ok s out r o → Wrote ok s out q p → (r ≡ q) × (o ≡ p)

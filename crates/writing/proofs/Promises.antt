@@ -12,9 +12,8 @@ use Rattle.wire.specs.Number as Number
 use Rattle.wire.specs.Refusal.{refusal}
 use Rattle.wire.specs.declared.View.{View}
 use Rattle.wire.proofs.Determined.{determined}
-use Rattle.writing.specs.Write.{put_at, tlv_fits, refusal_of, length_of, write_answer, after, Wrote}
-use Rattle.writing.specs.declared.WriteAnswer.{WriteAnswer}
-use Rattle.writing.specs.declared.WriteAnswer.TheVariants.{Written, Refused}
+use Rattle.writing.specs.Write.{WriteAnswer, put_at, tlv_fits, refusal_of, length_of, write_answer, after, Wrote}
+use Rattle.std.specs.declared.result.Result.TheVariants.{Ok, Err}
 use Rattle.writing.proofs.Sets.{put_fits, put_nothing}
 use Rattle.writing.proofs.Answers.{writes}
 
@@ -56,20 +55,20 @@ module _ (ok : Bool) (s out out' : List ℕ) (r : WriteAnswer)
   nothing_past_the_length = ap (drop (length_of r)) output ∙ go r wrote.answered
     where
       go : (a : WriteAnswer) → a ≡ write_answer ok (length s) (length out) → drop (length_of a) (after a s out) ≡ drop (length_of a) out
-      go (Written k) e = rw (writes ok (length s) (length out) k e).length_is (drop_at s (drop (length s) out) (length s) refl)
-      go (Refused x) e = refl
+      go (Ok k) e = rw (writes ok (length s) (length out) k e).length_is (drop_at s (drop (length s) out) (length s) refl)
+      go (Err x) e = refl
 
   -- A writer that refuses leaves every byte of the output as it was.
   pub refusal_writes_nothing : 0 < (refusal_of r).number → out' ≡ out
   refusal_writes_nothing h = output ∙ go r h
     where
       go : (a : WriteAnswer) → 0 < (refusal_of a).number → after a s out ≡ out
-      go (Written k) h = absurd (omega arith)
-      go (Refused x) h = refl
+      go (Ok k) h = absurd (omega arith)
+      go (Err x) h = refl
 
 -- A writer refuses BadField whatever the length, then TooLong whatever the room, then NoRoom.
 pub order : (n room : ℕ)
-    → (write_answer false n room ≡ Refused (refusal Number.BadField 0))
-    × ((Number.limit < n → write_answer true n room ≡ Refused (refusal Number.TooLong 0))
-    × (n ≤ Number.limit → room < n → write_answer true n room ≡ Refused (refusal Number.NoRoom 0)))
+    → (write_answer false n room ≡ Err (refusal Number.BadField 0))
+    × ((Number.limit < n → write_answer true n room ≡ Err (refusal Number.TooLong 0))
+    × (n ≤ Number.limit → room < n → write_answer true n room ≡ Err (refusal Number.NoRoom 0)))
 order n room = (refl, (λ h. rw (lt-ltb Number.limit n h), λ h k. rw (le-ltb Number.limit n h, lt-ltb room n k)))

@@ -5,10 +5,9 @@ use mathlib.Core.List.{List, [], ◌∷◌, ◌++◌}
 use Prim.Native.Nat.{ℕ, suc, ◌+◌, ◌-◌, ◌/◌, ◌%◌, ◌^◌, ◌≤◌, ◌<◌}
 use native.Mathlib.Omega.{arith}
 use native.Mathlib.Nat.{add-zero}
-use native.Mathlib.Numerals.{add-one}
 use borrow.Author.Tests.{le-leb, lt-leb}
-use lib.ListN.{length, take, set, get_or, length-append}
-use lib.Seq.{sets, length-sets, take-suc, length-take-le}
+use lib.ListN.{length, set, length-append}
+use lib.Seq.{sets, length-sets}
 use Rattle.wire.specs.Bytes.{pick, has, be}
 use Rattle.writing.specs.Write.{put_at, tlv_bytes}
 use Rattle.wire.proofs.Bytes.{length_be, be_split}
@@ -18,12 +17,6 @@ sets_append [] b l i = rw (add-zero i)
 sets_append (x ∷ a) b l i =
     let e : suc i + length a ≡ i + suc (length a) = omega arith in
     sets_append a b (set l i x) (suc i) ∙ ap (λ (k : ℕ). sets (sets (set l i x) (suc i) a) k b) e
-
--- one more element of a copy
-pub sets_more : (l src : List ℕ) (at i : ℕ) → i < length src
-    → set (sets l at (take i src)) (at + i) (get_or src i 0) ≡ sets l at (take (i + 1) src)
-sets_more l src at i h =
-    rw (add-one i, take-suc src i 0 h, sets_append (take i src) (get_or src i 0 ∷ []) l at, length-take-le i src (omega arith))
 
 -- ---- a put that fits, and one that does not
 pub put_fits : (l : List ℕ) (at : ℕ) (b : List ℕ) → length b ≤ length l - at → put_at l at b ≡ sets l at b

@@ -1,35 +1,18 @@
 -- The laws of writing a table, proved once for every kind: the entry at i, and the bytes of writable entries. Assumes nothing.
 use mathlib.Core.Path.{◌≡◌, refl, sym, ap, ◌∙◌, subst}
-use mathlib.Core.List.{List, [], ◌∷◌, ◌++◌}
+use mathlib.Core.List.{List, [], ◌∷◌}
 use mathlib.Core.Bool.{true, false}
-use Prim.Native.Nat.{ℕ, suc, ◌+◌, ◌-◌, ◌≤◌, ◌<◌}
+use Prim.Native.Nat.{ℕ, suc, ◌≤◌, ◌<◌}
 use native.Mathlib.Omega.{arith}
-use native.Mathlib.Numerals.{add-one}
 use borrow.Author.Tests.{ltb-false}
 use lib.Dec.{ltb}
-use lib.ListN.{length, take, drop, get_or, length-append, length-take, length-drop, drop_of_length-le}
-use lib.Seq.{drop-cons, get_or-take, length-take-le}
+use lib.ListN.{length, take, get_or, length-append, length-take}
+use lib.Seq.{get_or-take}
 use Rattle.wire.specs.Bytes.{pick, Bytes, none}
 use Rattle.wire.specs.Parts.{EachGood}
 use Rattle.wire.proofs.Bytes.{bytes_append}
-use Rattle.writing.specs.Table.{Writer, parts, joined, all_ok, sizes}
+use Rattle.writing.specs.Table.{Writer, parts, joined, all_ok, sizes, Bodied}
 use Rattle.writing.proofs.Tests.{both, past}
-
--- ---- the entry at i of the first n, and what follows it
-pub record At {A : Type 0} (table : List A) (n i : ℕ) (t : A) : Type 0 where
-  pub is : drop i (take n table) ≡ t ∷ drop (i + 1) (take n table)
-  pub behind : length (drop (i + 1) (take n table)) ≡ n - i - 1
-
-pub here : {A : Type 0} (table : List A) (n i : ℕ) (d : A) → n ≤ length table → i < n → At table n i (get_or table i d)
-here table n i d few h =
-    let e = length-take-le n table few in
-    record {
-      is = drop-cons (take n table) i d (omega arith) ∙ rw (get_or-take n table i d h, add-one i);
-      behind = length-drop (i + 1) (take n table) ∙ omega arith;
-    }
-
-pub done : {A : Type 0} (table : List A) (n i : ℕ) → n ≤ i → drop i (take n table) ≡ []
-done table n i h = let e = length-take n table in drop_of_length-le (take n table) {i = i} (omega arith)
 
 -- an index into the first n is one into the table
 pub kept_below : {A : Type 0} (table : List A) (n i : ℕ) → i < length (take n table) → i < n
@@ -47,12 +30,8 @@ module _ (W : Writer) where
   pub ok_head : (buffer_length : ℕ) (t : W.Entry) (l : List W.Entry) → all_ok W buffer_length (t ∷ l) ≡ true → (W.ok buffer_length (length l) t ≡ true) × (all_ok W buffer_length l ≡ true)
   ok_head buffer_length t l e = both (W.ok buffer_length (length l) t) (all_ok W buffer_length l) e
 
-  -- ---- what a body proves: the bytes of one entry alone, and how many
-  pub record Bodied (one : List ℕ → W.Entry → List ℕ) : Type 0 where
-    pub put_is : (b : List ℕ) (t : W.Entry) (r : List ℕ) → W.put (W.part b t) r ≡ one b t ++ r
-    pub length_is : (b : List ℕ) (n : ℕ) (t : W.Entry) → W.ok (length b) n t ≡ true → length (one b t) ≡ W.size t
-
-  module _ {one : List ℕ → W.Entry → List ℕ} (B : Bodied one) where
+  -- ---- the bytes of entries
+  module _ {one : List ℕ → W.Entry → List ℕ} (B : Bodied W one) where
     pub length_joined : (b : List ℕ) (l : List W.Entry) → all_ok W (length b) l ≡ true → length (joined W b l) ≡ sizes W l
     length_joined b [] e = refl
     length_joined b (t ∷ l) e =

@@ -1,5 +1,5 @@
 -- Writing a table of entries: what every writer of a list of items shares. Nothing here takes an input apart.
-use Rattle.std.specs.Prelude.{ℕ, ◌+◌, Bool, true, false, List, [], ◌∷◌, length}
+use Rattle.std.specs.Prelude.{ℕ, ◌+◌, ◌≡◌, Bool, true, false, List, [], ◌∷◌, ◌++◌, length}
 use Rattle.wire.specs.Bytes.{pick}
 use Rattle.wire.specs.Parts.{join_all}
 
@@ -29,3 +29,8 @@ all_ok W buffer_length (t ∷ l) = pick (W.ok buffer_length (length l) t) (all_o
 abbrev pub sizes : (W : Writer) → List W.Entry → ℕ
 sizes W [] = 0
 sizes W (t ∷ l) = W.size t + sizes W l
+
+-- what a body proves of its table: the bytes of one entry alone, and how many
+pub record Bodied (W : Writer) (one : List ℕ → W.Entry → List ℕ) : Type 0 where
+  pub put_is : (b : List ℕ) (t : W.Entry) (r : List ℕ) → W.put (W.part b t) r ≡ one b t ++ r
+  pub length_is : (b : List ℕ) (n : ℕ) (t : W.Entry) → W.ok (length b) n t ≡ true → length (one b t) ≡ W.size t

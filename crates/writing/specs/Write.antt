@@ -1,5 +1,5 @@
 -- What every writer answers, and what stands in the output afterwards (docs/RULES.md, "Writers").
-use Rattle.std.specs.Prelude.{ℕ, ◌^◌, ◌≡◌, Bool, false, List, ◌++◌, length, drop, ltb, eqb}
+use Rattle.std.specs.Prelude.{ℕ, ◌^◌, ◌≡◌, Bool, false, List, ◌++◌, length, drop, ltb, eqb, Result, Ok, Err}
 use Rattle.std.proofs.lemmas.List.Edits.{sets}
 use Rattle.wire.specs.Number as Number
 use Rattle.wire.specs.Bytes.{pick, has, be}
@@ -7,34 +7,36 @@ use Rattle.wire.specs.Refusal.{refusal, no_refusal}
 use Rattle.wire.specs.View.{inside}
 use Rattle.wire.specs.declared.Refusal.{Refusal}
 use Rattle.wire.specs.declared.View.{View}
-use Rattle.writing.specs.declared.WriteAnswer.{WriteAnswer}
-use Rattle.writing.specs.declared.WriteAnswer.TheVariants.{Written, Refused}
 
 -- bytes put at a place: all of them or, where they do not fit, none
 abbrev pub put_at : List ℕ → ℕ → List ℕ → List ℕ
 put_at out at b = pick (has (length b) out at) (sets out at b) out
 
+-- the length that is written, or why nothing is
+abbrev pub WriteAnswer : Type 0
+WriteAnswer = Result ℕ Refusal
+
 -- each answer's refusal, and the length that it says was written
 abbrev pub refusal_of : WriteAnswer → Refusal
-refusal_of (Written n) = no_refusal
-refusal_of (Refused r) = r
+refusal_of (Ok n) = no_refusal
+refusal_of (Err r) = r
 
 abbrev pub length_of : WriteAnswer → ℕ
-length_of (Written n) = n
-length_of (Refused r) = 0
+length_of (Ok n) = n
+length_of (Err r) = 0
 
 -- by whether the record is writable, the length that it would write and the room there is: BadField, then TooLong, then NoRoom
 abbrev pub write_answer : Bool → ℕ → ℕ → WriteAnswer
 write_answer ok n room =
     pick ok
-    (pick (ltb Number.limit n) (Refused (refusal Number.TooLong 0))
-    (pick (ltb room n) (Refused (refusal Number.NoRoom 0)) (Written n)))
-    (Refused (refusal Number.BadField 0))
+    (pick (ltb Number.limit n) (Err (refusal Number.TooLong 0))
+    (pick (ltb room n) (Err (refusal Number.NoRoom 0)) (Ok n)))
+    (Err (refusal Number.BadField 0))
 
 -- the output afterwards: as it was where the writer refused, else the bytes s and behind them what stood there
 abbrev pub after : WriteAnswer → List ℕ → List ℕ → List ℕ
-after (Written n) s out = s ++ drop (length s) out
-after (Refused r) s out = out
+after (Ok n) s out = s ++ drop (length s) out
+after (Err r) s out = out
 
 abbrev pub written : Bool → List ℕ → List ℕ → List ℕ
 written ok s out = after (write_answer ok (length s) (length out)) s out

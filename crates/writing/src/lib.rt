@@ -6,24 +6,12 @@ ghost use Rattle.writing.specs.Write.{put_at, tlv_fits, write_answer};
 
 use wire::{Refusal, View};
 
-// What a writer answers: the length written, or why it wrote nothing.
-#[derive(Clone, Copy)]
-pub enum WriteAnswer {
-    Written(usize),
-    Refused(Refusal),
-}
-
 // Puts bytes at a place of the output; where they do not fit, nothing changes.
 pub fn put_bytes(out: &mut [u8], at: usize, bytes: &[u8])
     ensures { out.new ≡ put_at out.old at bytes.now }
 {
-    if wire::left(out, at) < bytes.len() {
-        return;
-    }
-    let mut i: usize = 0;
-    while i < bytes.len() {
-        out[at + i] = bytes[i];
-        i += 1;
+    if at <= out.len() && bytes.len() <= out.len() - at {
+        out[at..at + bytes.len()].copy_from_slice(bytes);
     }
 }
 
@@ -38,18 +26,19 @@ pub fn tlv_fits(kind: u16, size: u16, view: View, buffer_length: usize) -> bool
     view.is_inside(buffer_length)
 }
 
-// A writer's answer by whether its record is writable, the length that it would write and the room there is.
-pub fn write_answer(ok: bool, length: usize, room: usize) -> WriteAnswer
+// A writer's answer by whether its record is writable, the length that it would write and the room there is: the length that is written, or why
+// nothing is.
+pub fn write_answer(ok: bool, length: usize, room: usize) -> Result<usize, Refusal>
     ensures { result ≡ write_answer ok length room }
 {
-    if ok {
-        if wire::LIMIT < length {
-            return WriteAnswer::Refused(wire::refusal_at(wire::TOO_LONG, 0));
-        }
-        if room < length {
-            return WriteAnswer::Refused(wire::refusal_at(wire::NO_ROOM, 0));
-        }
-        return WriteAnswer::Written(length);
+    if !ok {
+        return Err(wire::refusal_at(wire::BAD_FIELD, 0));
     }
-    WriteAnswer::Refused(wire::refusal_at(wire::BAD_FIELD, 0))
+    if wire::LIMIT < length {
+        return Err(wire::refusal_at(wire::TOO_LONG, 0));
+    }
+    if room < length {
+        return Err(wire::refusal_at(wire::NO_ROOM, 0));
+    }
+    Ok(length)
 }

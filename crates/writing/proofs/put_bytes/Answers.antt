@@ -1,8 +1,16 @@
 use native.Mathlib.Omega.{arith}
-use Rattle.writing.proofs.Sets.{sets_more}
+use mathlib.Core.Path.{refl, sym, ◌∙◌}
+use lib.ListN.{length}
+use Rattle.std.proofs.lemmas.List.Edits.{paste_all}
+use Rattle.std.proofs.lemmas.Slice.{put_mid-paste}
+use Rattle.writing.proofs.Promises.{put_all_or_nothing}
 use Rattle.writing.proofs.put_bytes.Goals as goal
 
-pub loop-i-preserved : goal.loop-i-preserved
-loop-i-preserved c =
+pub returns-then-bytes-out : goal.returns-then-bytes-out
+returns-then-bytes-out c =
     let a = c.args in
-    (omega arith, (omega arith, rw c.loop-i.invariant.1.1 (sets_more a.out.now a.bytes.now a.at c.loop-i.i (omega arith))))
+    let out = a.out.now in
+    let bytes = a.bytes.now in
+    put_mid-paste a.at _ out c.copy_from_slice.new.self bytes (length bytes) c.copy_from_slice.ensures.after (omega arith) refl
+    ∙ paste_all out a.at bytes (length bytes) refl
+    ∙ sym ((put_all_or_nothing out a.at bytes).0 (omega arith))

@@ -4,5 +4,5 @@ use Rattle.per_peer_type.proofs.PerPeerFlags.asn_length.Goals as goal
 pub returns-then-self-ne0 : goal.returns-then-self-ne0
 returns-then-self-ne0 c = rw (flag_set 5 c.args.self.0 c.if-self-ne0.true)
 
-pub returns : goal.returns
-returns c = rw (flag_clear 5 c.args.self.0 c.if-self-ne0.false)
+pub returns-else-self-ne0 : goal.returns-else-self-ne0
+returns-else-self-ne0 c = rw (flag_clear 5 c.args.self.0 c.if-self-ne0.false)

@@ -1,8 +1,0 @@
-use native.Mathlib.Omega.{arith}
-use Rattle.wire.proofs.Bytes.{num_split}
-use Rattle.numbers.proofs.four.Goals as goal
-
-pub returns : goal.returns
-returns c =
-    let a = c.args in
-    omega (arith, num_split 2 2 a.s.now a.at (omega arith))
