@@ -7,18 +7,17 @@ use native.Mathlib.Omega.{arith}
 use borrow.Author.Tests.{leb-true, ltb-false, eqb-true, le-ltb}
 use lib.Dec.{ltb, eqb, lit<}
 use lib.ListN.{length}
+use Rattle.std.specs.declared.result.Result.TheVariants.{Ok, Err}
 use Rattle.wire.specs.Number as Number
 use Rattle.wire.specs.Bytes.{pick, has, be, num_at, Bytes}
 use Rattle.wire.specs.Refusal.{refusal, cut_at}
 use Rattle.wire.proofs.Bytes.{value_be, num_back}
 use Rattle.common_header.specs.Grammar.{Reading, join, AnyType}
 use Rattle.common_header.specs.Fields as Fields
-use Rattle.common_header.specs.Fields.{parts_of, read_fields, read_common_fields}
+use Rattle.common_header.specs.Fields.{CommonFieldsAnswer, parts_of, read_fields, read_common_fields}
 use Rattle.common_header.specs.Shown.{good_answer, refusal_of}
 use Rattle.common_header.specs.Read.{judged, after_fields}
 use Rattle.common_header.specs.declared.CommonFields.{CommonFields}
-use Rattle.common_header.specs.declared.CommonFieldsAnswer.{CommonFieldsAnswer}
-use Rattle.common_header.specs.declared.CommonHeaderAnswer.{CommonHeaderAnswer}
 use Rattle.common_header.proofs.Fields.{whole}
 
 -- ---- joined, then taken apart
@@ -53,9 +52,9 @@ accepted s e = go (ltb Number.limit (length s)) refl (has 1 s 0) refl (eqb (num_
 
     go : (a : Bool) → ltb Number.limit (length s) ≡ a → (b : Bool) → has 1 s 0 ≡ b → (c : Bool) → eqb (num_at 1 s 0) 3 ≡ c
         → (d : Bool) → has 4 s 1 ≡ d → (f : Bool) → has 1 s 5 ≡ f
-        → (Fields.refusal_of (pick a (CommonFieldsAnswer.Refused (refusal Number.TooLong 0))
-        (pick b (pick c (pick d (pick f (Fields.shown (parts_of s)) (CommonFieldsAnswer.Refused (cut_at (length s) 5 1))) (CommonFieldsAnswer.Refused (cut_at (length s) 1 4)))
-        (CommonFieldsAnswer.Refused (refusal Number.BadVersion 0))) (CommonFieldsAnswer.Refused (cut_at (length s) 0 1))))).number ≡ Number.Good
+        → (Fields.refusal_of (pick a (Err (refusal Number.TooLong 0))
+        (pick b (pick c (pick d (pick f (Fields.shown (parts_of s)) (Err (cut_at (length s) 5 1))) (Err (cut_at (length s) 1 4)))
+        (Err (refusal Number.BadVersion 0))) (Err (cut_at (length s) 0 1))))).number ≡ Number.Good
         → Accepted s
     go true ha b hb c hc d hd f hf q = no q
     go false ha false hb c hc d hd f hf q = no q
@@ -79,12 +78,12 @@ pub judged_known : (f : CommonFields) → (refusal_of (judged f)).number ≡ Num
 judged_known f e = go (ltb 6 f.kind) refl e
   where
     go : (b : Bool) → ltb 6 f.kind ≡ b
-        → (refusal_of (pick b (CommonHeaderAnswer.Refused (refusal Number.UnknownKind 5)) (good_answer f))).number ≡ Number.Good
+        → (refusal_of (pick b (Err (refusal Number.UnknownKind 5)) (good_answer f))).number ≡ Number.Good
         → f.kind ≤ 6
     go true h q = absurd (omega arith)
     go false h q = ltb-false 6 f.kind h
 
 -- a good header comes from good fields
 pub fields_accepted : (a : CommonFieldsAnswer) → (refusal_of (after_fields a)).number ≡ Number.Good → (Fields.refusal_of a).number ≡ Number.Good
-fields_accepted (CommonFieldsAnswer.Good f) e = refl
-fields_accepted (CommonFieldsAnswer.Refused r) e = e
+fields_accepted (Ok f) e = refl
+fields_accepted (Err r) e = e

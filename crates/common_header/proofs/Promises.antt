@@ -4,8 +4,10 @@ use mathlib.Core.Path.{◌≡◌, refl, sym, ap, ◌∙◌, subst}
 use mathlib.Core.List.{List}
 use Prim.Native.Nat.{ℕ, ◌≤◌}
 use native.Mathlib.Omega.{arith}
+use Rattle.std.specs.declared.result.Result.{Result}
 use Rattle.wire.specs.Number as Number
 use Rattle.wire.specs.Bytes.{be}
+use Rattle.wire.specs.declared.Refusal.{Refusal}
 use Rattle.wire.proofs.Bytes.{num_lt, bytes_drop}
 use Rattle.wire.proofs.Arms.{number_of_name}
 use Rattle.wire.proofs.Determined.{determined}
@@ -14,14 +16,12 @@ use Rattle.wire.specs.Waits.{Waits, MissingTells}
 use Rattle.wire.specs.Exactly.{Sound, Complete, Told, Unique}
 use Rattle.common_header.specs.Grammar.{Reading, join, any_type, grammar}
 use Rattle.common_header.specs.Fields as Fields
-use Rattle.common_header.specs.Fields.{parts_of, fields_of, read_common_fields}
-use Rattle.common_header.specs.Shown.{names, type_of, kind_of, refusal_of}
+use Rattle.common_header.specs.Fields.{CommonFieldsAnswer, parts_of, fields_of, read_common_fields}
+use Rattle.common_header.specs.Shown.{CommonHeaderAnswer, names, type_of, type_named, kind_of, refusal_of}
 use Rattle.common_header.specs.Read.{judged, after_fields, read_common_header, reader}
 use Rattle.common_header.specs.declared.BmpMsgType.{BmpMsgType}
 use Rattle.common_header.specs.declared.BmpMsgType.TheVariants.{RouteMonitoring, StatisticsReport, PeerDownNotification, PeerUpNotification, InitiationMessage, TerminationMessage, RouteMirroringMessage}
 use Rattle.common_header.specs.declared.CommonFields.{CommonFields}
-use Rattle.common_header.specs.declared.CommonFieldsAnswer.{CommonFieldsAnswer}
-use Rattle.common_header.specs.declared.CommonHeaderAnswer.{CommonHeaderAnswer}
 use Rattle.common_header.proofs.Laws.{length_join, parts_join, join_parts, Accepted, accepted, shows_parts, known_judged, judged_known, fields_accepted}
 use Rattle.common_header.proofs.Refusals as Refusals
 use Rattle.common_header.proofs.Waits as Waiting
@@ -147,6 +147,9 @@ header_determined f a b = determined
 
 pub parse_determined : (s : List ℕ) (a b : CommonHeaderAnswer) → a ≡ read_common_header s → b ≡ read_common_header s → a ≡ b
 parse_determined s a b = determined
+
+pub type_determined : (n : ℕ) (a b : Result BmpMsgType Refusal) → a ≡ type_named n → b ≡ type_named n → a ≡ b
+type_determined n a b = determined
 
 pub kind_of_determined : (t : BmpMsgType) (n k : ℕ) → n ≡ kind_of t → k ≡ kind_of t → n ≡ k
 kind_of_determined t n k = determined

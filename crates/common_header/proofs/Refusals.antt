@@ -4,15 +4,15 @@ use mathlib.Core.List.{List, [], ◌∷◌}
 use Prim.Native.Nat.{ℕ}
 use lib.Dec.{ltb, eqb}
 use lib.ListN.{length}
+use Rattle.std.specs.declared.result.Result.TheVariants.{Ok, Err}
 use Rattle.wire.specs.Number as Number
 use Rattle.wire.specs.Bytes.{value, has, num_at, none}
 use Rattle.wire.specs.Refuses.{Refuses}
 use Rattle.wire.proofs.Refuses.{pick_in, Answered, is_good, is_empty, one_of, GivesEach, gives_too_long, refuses_from, among, bytes_are}
 use Rattle.wire.proofs.Waits.{said}
 use Rattle.common_header.specs.Fields as Fields
-use Rattle.common_header.specs.Fields.{read_fields, read_common_fields}
+use Rattle.common_header.specs.Fields.{CommonFieldsAnswer, read_fields, read_common_fields}
 use Rattle.common_header.specs.Read.{after_fields, read_common_header, numbers, reader}
-use Rattle.common_header.specs.declared.CommonFieldsAnswer.{CommonFieldsAnswer}
 
 -- ---- the fields
 pub fields_answered : (s : List ℕ) → Answered Fields.reader (read_common_fields s)
@@ -39,10 +39,10 @@ fields_refuses = refuses_from Fields.reader fields_answered fields_given
 
 -- ---- the header, which hands on the refusals of the fields
 after : (a : CommonFieldsAnswer) → Answered Fields.reader a → Answered reader (after_fields a)
-after (CommonFieldsAnswer.Good f) x =
+after (Ok f) x =
     pick_in (Answered reader) (ltb 6 f.kind) (is_empty refl (one_of numbers Number.UnknownKind refl)) (is_good refl)
-after (CommonFieldsAnswer.Refused r) (is_good e) = is_good e
-after (CommonFieldsAnswer.Refused r) (is_empty e o) = is_empty refl (among Fields.numbers numbers refl r.number o)
+after (Err r) (is_good e) = is_good e
+after (Err r) (is_empty e o) = is_empty refl (among Fields.numbers numbers refl r.number o)
 
 -- none, version 4, and type 7
 given : GivesEach reader numbers

@@ -6,6 +6,7 @@ use native.Mathlib.Omega.{arith}
 use borrow.Author.Tests.{leb-true}
 use lib.Dec.{ltb, eqb}
 use lib.ListN.{length}
+use Rattle.std.specs.declared.result.Result.TheVariants.{Err}
 use Rattle.wire.specs.Number as Number
 use Rattle.wire.specs.Bytes.{pick, has, num_at}
 use Rattle.wire.specs.Refusal.{refusal}
@@ -13,10 +14,9 @@ use Rattle.wire.specs.Waits.{Never, Waits, MissingTells}
 use Rattle.wire.specs.declared.Refusal.{Refusal}
 use Rattle.wire.proofs.Waits.{Judge, by_number, said, said_by, ends, good, test, need, ask, waits_by, tells_by}
 use Rattle.common_header.specs.Fields as Fields
-use Rattle.common_header.specs.Fields.{parts_of, read_fields, read_common_fields}
+use Rattle.common_header.specs.Fields.{CommonFieldsAnswer, parts_of, read_fields, read_common_fields}
 use Rattle.common_header.specs.Shown.{refusal_of}
 use Rattle.common_header.specs.Read.{after_fields, read_common_header, reader}
-use Rattle.common_header.specs.declared.CommonFieldsAnswer.{CommonFieldsAnswer}
 
 -- its fields in order, and then what is judged behind them
 unfoldable pub judge_then : Judge Never 6 6 → Judge Never 0 0
@@ -24,7 +24,7 @@ judge_then x =
     ask 1 (test (λ s. eqb (num_at 1 s 0) 3) (by_number 1 0 (omega arith) (λ k. eqb k 3)) (ask 4 (ask 1 x)) (ends Number.BadVersion 0 refl))
 
 -- the refusal that g makes of the fields' answer, where it hands on their own refusals
-pub judged_then : (g : CommonFieldsAnswer → Refusal) → ((r : Refusal) → g (CommonFieldsAnswer.Refused r) ≡ r) → (x : Judge Never 6 6) (s : List ℕ)
+pub judged_then : (g : CommonFieldsAnswer → Refusal) → ((r : Refusal) → g (Err r) ≡ r) → (x : Judge Never 6 6) (s : List ℕ)
     → (6 ≤ length s → g (Fields.shown (parts_of s)) ≡ x.judge s)
     → g (read_common_fields s) ≡ pick (ltb Number.limit (length s)) (refusal Number.TooLong 0) ((judge_then x).judge s)
 unfolding judge_then read_fields ask need test ends

@@ -1,24 +1,22 @@
 -- What the reader answers, for every input.
-use Rattle.std.specs.Prelude.{ℕ, List, [], ◌∷◌, ltb}
+use Rattle.std.specs.Prelude.{ℕ, List, [], ◌∷◌, ltb, Ok, Err}
 use Rattle.wire.specs.Number as Number
 use Rattle.wire.specs.Bytes.{pick}
 use Rattle.wire.specs.Refusal.{refusal}
 use Rattle.wire.specs.Exactly.{Reader}
 use Rattle.common_header.specs.Grammar.{grammar}
-use Rattle.common_header.specs.Fields.{read_common_fields}
-use Rattle.common_header.specs.Shown.{good_answer, shown, refusal_of, stop_of}
+use Rattle.common_header.specs.Fields.{CommonFieldsAnswer, read_common_fields}
+use Rattle.common_header.specs.Shown.{CommonHeaderAnswer, good_answer, shown, refusal_of, stop_of}
 use Rattle.common_header.specs.Told.{told}
 use Rattle.common_header.specs.declared.CommonFields.{CommonFields}
-use Rattle.common_header.specs.declared.CommonFieldsAnswer.{CommonFieldsAnswer}
-use Rattle.common_header.specs.declared.CommonHeaderAnswer.{CommonHeaderAnswer}
 
 -- the header of some fields, where their type is known
 abbrev pub judged : CommonFields → CommonHeaderAnswer
-judged f = pick (ltb 6 f.kind) (CommonHeaderAnswer.Refused (refusal Number.UnknownKind 5)) (good_answer f)
+judged f = pick (ltb 6 f.kind) (Err (refusal Number.UnknownKind 5)) (good_answer f)
 
 abbrev pub after_fields : CommonFieldsAnswer → CommonHeaderAnswer
-after_fields (CommonFieldsAnswer.Good f) = judged f
-after_fields (CommonFieldsAnswer.Refused r) = CommonHeaderAnswer.Refused r
+after_fields (Ok f) = judged f
+after_fields (Err r) = Err r
 
 abbrev pub read_common_header : List ℕ → CommonHeaderAnswer
 read_common_header s = after_fields (read_common_fields s)
@@ -37,7 +35,7 @@ reader =
       shown = shown;
       tail_at = stop_of;
       told = told;
-      refused = CommonHeaderAnswer.Refused;
+      refused = Err;
       refusal_of = refusal_of;
       numbers = numbers;
     }

@@ -2,13 +2,11 @@
 #![tactic(auto)]
 
 ghost use Rattle.std.specs.Prelude.{◌≡◌};
-ghost use Rattle.common_header.specs.declared.CommonFieldsAnswer.{CommonFieldsAnswer};
-ghost use Rattle.common_header.specs.declared.CommonHeaderAnswer.{CommonHeaderAnswer};
-ghost use Rattle.common_header.specs.Shown.{type_of, kind_of};
+ghost use Rattle.common_header.specs.Shown.{kind_of};
 ghost use Rattle.common_header.specs.Fields.{read_fields, read_common_fields};
 ghost use Rattle.common_header.specs.Read.{judged, read_common_header};
 
-use cursor::{Cursor, ReadU8, ReadU32};
+use cursor::Cursor;
 use wire::Refusal;
 
 #[derive(Clone, Copy)]
@@ -35,13 +33,6 @@ pub struct BmpCommonHeader {
     pub msg_type: BmpMsgType,
 }
 
-// The header and the place after it, or why there is none.
-#[derive(Clone, Copy)]
-pub enum CommonHeaderAnswer {
-    Good(BmpCommonHeader, usize),
-    Refused(Refusal),
-}
-
 // Version, length and type as they stand there: the type may be any number.
 #[derive(Clone, Copy)]
 pub struct CommonFields {
@@ -50,90 +41,82 @@ pub struct CommonFields {
     pub kind: u8,
 }
 
-// The fields, behind which the message goes on at 6, or why they are refused.
-#[derive(Clone, Copy)]
-pub enum CommonFieldsAnswer {
-    Good(CommonFields),
-    Refused(Refusal),
-}
-
-// Reads the header at the front of the bytes; whether the rest of the message is there is not asked.
-pub fn parse_bmp_common_header(s: &[u8]) -> CommonHeaderAnswer
+// Reads the header at the front of the bytes, and hands back the place after it too; whether the rest of the message is there is not asked.
+pub fn parse_bmp_common_header(s: &[u8]) -> Result<(BmpCommonHeader, usize), Refusal>
     ensures { result ≡ read_common_header s.now }
 {
-    match parse_common_fields(s) {
-        CommonFieldsAnswer::Refused(refusal) => CommonHeaderAnswer::Refused(refusal),
-        CommonFieldsAnswer::Good(fields) => fields.header(),
-    }
+    parse_common_fields(s)?.header()
 }
 
-// Reads the header's fields and does not judge the type: who ignores messages of unknown types has their length from here.
-pub fn parse_common_fields(s: &[u8]) -> CommonFieldsAnswer
+// Reads the header's fields, behind which the message goes on at 6, and does not judge the type: who ignores messages of unknown types has their
+// length from here.
+pub fn parse_common_fields(s: &[u8]) -> Result<CommonFields, Refusal>
     ensures { result ≡ read_common_fields s.now }
 {
     if wire::LIMIT < s.len() {
-        return CommonFieldsAnswer::Refused(wire::refusal_at(wire::TOO_LONG, 0));
+        return Err(wire::refusal_at(wire::TOO_LONG, 0));
     }
     read_fields(s)
 }
 
-fn read_fields(s: &[u8]) -> CommonFieldsAnswer
+#[tactic(auto, unfolding(crate::specs::Fields::read_fields))]
+fn read_fields(s: &[u8]) -> Result<CommonFields, Refusal>
     ensures { result ≡ read_fields s.now }
 {
     let start = Cursor { at: 0 };
-    match start.read_u8(s) {
-        ReadU8::Cut(refusal) => CommonFieldsAnswer::Refused(refusal),
-        ReadU8::Good(version, after_version) => {
-            if version != VERSION {
-                return CommonFieldsAnswer::Refused(wire::refusal_at(wire::BAD_VERSION, 0));
-            }
-            match after_version.read_u32(s) {
-                ReadU32::Cut(refusal) => CommonFieldsAnswer::Refused(refusal),
-                ReadU32::Good(msg_len, after_length) => match after_length.read_u8(s) {
-                    ReadU8::Cut(refusal) => CommonFieldsAnswer::Refused(refusal),
-                    ReadU8::Good(kind, _) => CommonFieldsAnswer::Good(CommonFields {
-                        version: version,
-                        msg_len: msg_len,
-                        kind: kind,
-                    }),
-                },
-            }
-        }
+    let (version, after_version) = start.read::<u8>(s)?;
+    if version != VERSION {
+        return Err(wire::refusal_at(wire::BAD_VERSION, 0));
     }
+    let (msg_len, after_length) = after_version.read::<u32>(s)?;
+    let (kind, _) = after_length.read::<u8>(s)?;
+    Ok(CommonFields {
+        version,
+        msg_len,
+        kind,
+    })
 }
 
 impl CommonFields {
-    // The header with the name of its type, or UnknownKind where there is none.
-    pub fn header(self) -> CommonHeaderAnswer
+    // The header with the name of its type, and the place after it; UnknownKind where the type has no name.
+    pub fn header(self) -> Result<(BmpCommonHeader, usize), Refusal>
         ensures { result ≡ judged self }
     {
-        if 6 < self.kind {
-            return CommonHeaderAnswer::Refused(wire::refusal_at(wire::UNKNOWN_KIND, 5));
-        }
         let header = BmpCommonHeader {
             version: self.version,
             msg_len: self.msg_len,
-            msg_type: type_of(self.kind),
+            msg_type: BmpMsgType::try_from(self.kind)?,
         };
-        CommonHeaderAnswer::Good(header, COMMON_HEADER)
+        Ok((header, COMMON_HEADER))
     }
 }
 
-fn type_of(kind: u8) -> BmpMsgType
-    ensures { result ≡ type_of kind }
-{
-    match kind {
-        0 => BmpMsgType::RouteMonitoring,
-        1 => BmpMsgType::StatisticsReport,
-        2 => BmpMsgType::PeerDownNotification,
-        3 => BmpMsgType::PeerUpNotification,
-        4 => BmpMsgType::InitiationMessage,
-        5 => BmpMsgType::TerminationMessage,
-        _ => BmpMsgType::RouteMirroringMessage,
+impl TryFrom<u8> for BmpMsgType {
+    ghost use Rattle.std.specs.Prelude.{◌≡◌};
+    ghost use Rattle.common_header.specs.Shown.{type_named};
+
+    type Error = Refusal;
+
+    ghost try_from_gives = { λ kind answer. answer ≡ type_named kind };
+
+    // The type with this number, or UnknownKind at the place where the number stands in a header.
+    #[tactic(auto, unfolding(crate::specs::Shown::type_of))]
+    fn try_from(kind: u8) -> Result<BmpMsgType, Refusal> {
+        match kind {
+            0 => Ok(BmpMsgType::RouteMonitoring),
+            1 => Ok(BmpMsgType::StatisticsReport),
+            2 => Ok(BmpMsgType::PeerDownNotification),
+            3 => Ok(BmpMsgType::PeerUpNotification),
+            4 => Ok(BmpMsgType::InitiationMessage),
+            5 => Ok(BmpMsgType::TerminationMessage),
+            6 => Ok(BmpMsgType::RouteMirroringMessage),
+            _ => Err(wire::refusal_at(wire::UNKNOWN_KIND, 5)),
+        }
     }
 }
 
 // The number that stands for a type on the wire.
+#[tactic(auto, unfolding(crate::specs::Shown::kind_of))]
 pub fn kind_of(msg_type: BmpMsgType) -> u8
     ensures { result ≡ kind_of msg_type }
 {

@@ -1,21 +1,18 @@
 -- What the walk kit asks of an Initiation body. Assumes nothing.
 use mathlib.Core.Path.{◌≡◌, ap, ◌∙◌, subst}
-use mathlib.Core.List.{List, []}
+use mathlib.Core.List.{[]}
 use mathlib.Core.Logic.{inl}
-use Prim.Native.Nat.{ℕ, ◌≤◌, ◌<◌}
+use Prim.Native.Nat.{◌≤◌, ◌<◌}
 use native.Mathlib.Omega.{arith}
 use lib.ListN.{length, drop}
 use Rattle.wire.specs.Tlv.{Tlv, put_tlv, size_of, Tail, put_tail, GoodTail}
 use Rattle.wire.specs.TlvAt.{tlv_of, tail_of}
 use Rattle.wire.specs.Walk.{item}
-use Rattle.cursor.specs.declared.Cursor.{Cursor}
 use Rattle.wire.proofs.Tlv.{tlv_there, tlv_join, tlv_rest, tlv_parts, tail_none, tail_join, tail_parts}
-use Rattle.wire.proofs.Walk.{Takes, Faults, Laws, Tails, TurnTo, turn_to}
+use Rattle.wire.proofs.Walk.{Takes, Faults, Laws, Tails}
 use Rattle.initiation_message.specs.Grammar.{ReadTlv}
-use Rattle.initiation_message.specs.Read.{step_at, kit}
-use Rattle.initiation_message.specs.declared.InitiationTlv.{InitiationTlv}
-use Rattle.initiation_message.specs.declared.Step.TheVariants.{Whole}
-use Rattle.initiation_message.proofs.Steps.{none, whole, see, of, found, stopped, no_fault, was_whole}
+use Rattle.initiation_message.specs.Read.{kit}
+use Rattle.initiation_message.proofs.Steps.{none, whole, see, of, found, stopped, no_fault}
 
 pub faults : Faults kit
 faults s r e = absurd (no_fault s r (see s) e)
@@ -49,10 +46,3 @@ tails =
       stops = λ z p e. tail_parts z p (stopped z (see z) e);
       ends = λ t g. (of (put_tail t) (none (tail_none t g)), tail_join t g);
     }
-
--- ---- a turn of the reader's loop that finds a TLV
-pub onward : (n at : ℕ) (table : List InitiationTlv) (s : List ℕ) (kind size place : ℕ) (c : Cursor) → n ≤ at → at ≤ length s
-    → step_at s at ≡ Whole kind size place c → TurnTo kit takes n at table s (record { kind = kind; info_len = size; place = place }) c.at
-onward n at table s kind size place c few h e =
-    let w = was_whole at kind size place c (drop at s) e in
-    turn_to kit takes n at table s w.0 _ c.at few h w.1 w.2 w.3

@@ -23,9 +23,8 @@ use Rattle.initiation_message.specs.Grammar.{Reading, join, Good, grammar, place
 use Rattle.initiation_message.specs.Read.{kit, read_initiation, reader, answer}
 use Rattle.initiation_message.specs.declared.InitiationTlv.{InitiationTlv}
 use Rattle.initiation_message.specs.declared.InitiationTlvType.{InitiationTlvType}
-use Rattle.initiation_message.specs.declared.InitiationAnswer.{InitiationAnswer}
 use Rattle.initiation_message.specs.declared.InitiationTlvType.TheVariants.{Unknown}
-use Rattle.initiation_message.specs.Shown.{refused_answer, shown, names, type_of, kind_of, info_of}
+use Rattle.initiation_message.specs.Shown.{ReadInitiation, refused_answer, refusal_of, stop_of, shown, names, type_of, kind_of, info_of}
 use Rattle.initiation_message.proofs.Laws.{faults, laws, tails}
 use Rattle.initiation_message.proofs.Shows.{shows_of, ViewAt}
 use Rattle.initiation_message.proofs.Told as ToldProofs
@@ -35,8 +34,8 @@ use Rattle.initiation_message.proofs.Waits as Waiting
 -- What the reader accepts has a good reading that fits, and it shows that reading.
 pub sound : Sound reader
 sound s p e =
-    let n = not_too_long (λ (a : InitiationAnswer). a.refusal.number) _ _ (length s) refl e in
-    let a = read_accepted kit laws tails (λ (x : InitiationAnswer). x.refusal.number) answer faults (λ r. refl) 0 s p n.1 in
+    let n = not_too_long (λ (a : ReadInitiation). (refusal_of a).number) _ _ (length s) refl e in
+    let a = read_accepted kit laws tails (λ (x : ReadInitiation). (refusal_of x).number) answer faults (λ r. refl) 0 s p n.1 in
     (record { tlvs = a.0; tail = a.1 }, shows_of s n.0 a.0 a.1 a.2)
 
 -- Every good reading that fits is accepted, and shown.
@@ -68,7 +67,7 @@ too_many r g h many =
     (ap answer (read_too_many kit laws tails 0 (join r) r.tlvs r.tail g.each g.tail_good refl many))
 
 -- What follows the stop is the tail, or what is there of the value of an oversized TLV.
-pub stop_told : (r : Reading) → Good r → drop (shown r).stop (join r) ≡ unread r.tail
+pub stop_told : (r : Reading) → Good r → drop (stop_of (shown r)) (join r) ≡ unread r.tail
 stop_told r g = stop_behind (join r) _ r.tail (tail_behind kit laws (join r) r.tlvs (put_tail r.tail) 0 g.each refl)
 
 -- No input has two readings, whatever the table holds.
@@ -102,5 +101,5 @@ pub info_determined : (t : InitiationTlv) (r q : View) → r ≡ info_of t → q
 info_determined t r q = determined
 
 -- Two answers of the reader to the same bytes are equal.
-pub parse_determined : (s : List ℕ) (a b : InitiationAnswer) → a ≡ read_initiation s → b ≡ read_initiation s → a ≡ b
+pub parse_determined : (s : List ℕ) (a b : ReadInitiation) → a ≡ read_initiation s → b ≡ read_initiation s → a ≡ b
 parse_determined s a b = determined

@@ -8,18 +8,26 @@ use native.Mathlib.Omega.{arith}
 use borrow.Author.Tests.{lt-leb, le-leb, lt-ltb, le-ltb, leb-true, leb-false, ltb-true, ltb-false}
 use lib.Dec.{leb, ltb}
 use lib.ListN.{length, drop, length-drop}
+use Rattle.std.specs.declared.result.Result.{Result}
+use Rattle.std.specs.declared.result.Result.TheVariants.{Ok}
 use Rattle.wire.specs.Bytes.{pick, num_at}
 use Rattle.cursor.specs.Read.{cursor}
 use Rattle.wire.specs.Tlv.{Tlv, size_of}
-use Rattle.wire.specs.TlvAt.{tlv_of, tail_of, stop_at}
+use Rattle.wire.specs.TlvAt.{tlv_of}
 use Rattle.wire.specs.Walk as Walk
 use Rattle.wire.specs.Walk.{stop, bad, item}
 use Rattle.wire.specs.declared.Refusal.{Refusal}
-use Rattle.cursor.specs.declared.Cursor.{Cursor}
 use Rattle.wire.proofs.Tlv.{NoTlv}
+use Rattle.std.specs.declared.option.Option.TheVariants.{Some, None}
+use Rattle.tlv_head.specs.Head.{head_at}
+use Rattle.tlv_head.specs.declared.TlvHead.{TlvHead}
+use Rattle.tlv_head.proofs.Heads.{Head, was_found, was_short}
 use Rattle.initiation_message.specs.Shown.{entry}
-use Rattle.initiation_message.specs.Read.{step, as_step, step_at}
-use Rattle.initiation_message.specs.declared.Step.TheVariants.{Stop, Whole}
+use Rattle.initiation_message.specs.Read.{step, stop_behind, step_at}
+use Rattle.initiation_message.specs.declared.InitiationTlv.{InitiationTlv}
+use Rattle.walk.specs.Walk.{step_of}
+use Rattle.walk.specs.declared.Step.{Step}
+use Rattle.walk.specs.declared.Step.TheVariants.{Stop, Whole}
 
 pub data Seen (s : List ℕ) : Walk.Step Tlv → Type 0 where
   none : NoTlv s → Seen s stop
@@ -47,58 +55,43 @@ pub record Found (s : List ℕ) (t : Tlv) : Type 0 where
   pub there : num_at 2 s 2 ≤ length s - 4
 
 pub found : (s : List ℕ) (t : Tlv) {x : Walk.Step Tlv} → Seen s x → x ≡ item t → Found s t
-found s t (none h) q = let z : ◌≡◌ {A = ℕ} 0 1 = cc in absurd (omega arith)
+found s t (none h) q = absurd cc
 found s t (whole h k) q = record { is = cc; long = h; there = k }
 
 pub stopped : (s : List ℕ) {x : Walk.Step Tlv} → Seen s x → x ≡ stop → NoTlv s
 stopped s (none h) q = h
-stopped s (whole h k) q = let z : ◌≡◌ {A = ℕ} 0 1 = cc in absurd (omega arith)
+stopped s (whole h k) q = absurd cc
 
 pub no_fault : (s : List ℕ) (r : Refusal) {x : Walk.Step Tlv} → Seen s x → x ≡ bad r → ⊥
-no_fault s r (none h) q = let z : ◌≡◌ {A = ℕ} 0 1 = cc in omega arith
-no_fault s r (whole h k) q = let z : ◌≡◌ {A = ℕ} 0 1 = cc in omega arith
+no_fault s r (none h) q = cc
+no_fault s r (whole h k) q = cc
 
--- ---- each answer of `step_at`
+-- ---- each answer of `step_at`, by the head that was read
 module _ (s : List ℕ) (at : ℕ) where
-  pub brief_at : length s - at ≤ 4 → step_at s at ≡ Stop at
-  brief_at h =
-      let l : length (drop at s) ≤ 4 = simp length-drop h in
+  pub brief_at : head_at 1 s at ≡ None → ◌≡◌ {A = Result (Step InitiationTlv) Refusal} (Ok (Stop at)) (step_at s at)
+  brief_at e =
+      let h = was_short 1 s at refl (sym e) in
+      let l : length (drop at s) ≤ 4 = simp length-drop (omega arith) in
       rw (of (drop at s) (none (inl l)), le-leb (length (drop at s)) 4 l)
 
-  module _ (long : 4 < length s - at) (size : ℕ) (size_is : num_at 2 (drop at s) 2 ≡ size) (place : ℕ) (place_is : place ≡ at + 4) where
-    long' : 4 < length (drop at s)
-    long' = simp length-drop long
+  module _ (h : TlvHead) (e : head_at 1 s at ≡ Some h) where
+    head : Head 1 s at h
+    head = was_found 1 s at e refl
 
-    pub beyond_at : length s - place < size → step_at s at ≡ Stop place
-    beyond_at h =
-        rw (of (drop at s) (none (inr (long', rw (length-drop, size_is) (omega arith)))), lt-leb (length (drop at s)) 4 long', place_is)
+    long : 4 < length (drop at s)
+    long = let w = head in simp length-drop (omega arith)
 
-    pub whole_at : (kind : ℕ) → num_at 2 (drop at s) 0 ≡ kind → size ≤ length s - place
-        → step_at s at ≡ Whole kind size place (cursor (place + size))
-    whole_at kind kind_is h =
-        let end_is : at + (4 + num_at 2 (drop at s) 2) ≡ place + size = omega arith in
-        ap (as_step at (drop at s)) (of (drop at s) (whole long' (rw (length-drop, size_is) (omega arith))))
-        ∙ (λ i. Whole (kind_is i) (size_is i) (sym place_is i) (cursor (end_is i)))
+    pub beyond_at : length s - h.value.at < h.length → ◌≡◌ {A = Result (Step InitiationTlv) Refusal} (Ok (Stop h.value.at)) (step_at s at)
+    beyond_at l =
+        let w = head in
+        rw (of (drop at s) (none (inr (long, rw (length-drop, w.size_is) (omega arith)))), lt-leb (length (drop at s)) 4 long, w.next)
 
--- ---- and the other way
-pub was_stop : (at p : ℕ) (s : List ℕ) → as_step at s (step s) ≡ Stop p → (step s ≡ stop) × (p ≡ stop_at at (tail_of s))
-was_stop at p s e = go (step s) refl e
-  where
-    go : (x : Walk.Step Tlv) → step s ≡ x → as_step at s x ≡ Stop p → (step s ≡ stop) × (p ≡ stop_at at (tail_of s))
-    go stop h q = (h, cc)
-    go (bad r) h q = absurd (no_fault s r (see s) h)
-    go (item t) h q = (cc, cc)
+    pub whole_at : h.length ≤ length s - h.value.at
+        → ◌≡◌ {A = Result (Step InitiationTlv) Refusal} (Ok (Whole (record { kind = h.kind; info_len = h.length; place = h.value.at }) (cursor (h.value.at + h.length)))) (step_at s at)
+    whole_at l =
+        let w = head in
+        let end_is : at + (4 + num_at 2 (drop at s) 2) ≡ h.value.at + h.length = omega arith in
+        sym (ap (step_of entry size_of stop_behind at (drop at s)) (of (drop at s) (whole long (rw (length-drop, w.size_is) (omega arith))))
+        ∙ (λ i. Ok (Whole (record { kind = w.kind_is i; info_len = w.size_is i; place = sym w.next i }) (cursor (end_is i)))))
 
-pub was_whole : (at kind size place : ℕ) (c : Cursor) (s : List ℕ) → as_step at s (step s) ≡ Whole kind size place c
-    → (t : Tlv) × (step s ≡ item t) × (entry at t ≡ record { kind = kind; info_len = size; place = place }) × (at + size_of t ≡ c.at)
-was_whole at kind size place c s e = go (step s) refl e
-  where
-    go : (x : Walk.Step Tlv) → step s ≡ x → as_step at s x ≡ Whole kind size place c
-        → (t : Tlv) × (step s ≡ item t) × (entry at t ≡ record { kind = kind; info_len = size; place = place }) × (at + size_of t ≡ c.at)
-    go stop h q = let z : ◌≡◌ {A = ℕ} 0 1 = cc in absurd (omega arith)
-    go (bad r) h q = absurd (no_fault s r (see s) h)
-    go (item t) h q =
-        let kind_is : t.kind ≡ kind = cc in
-        let size_is : t.size ≡ size = cc in
-        let place_is : at + 4 ≡ place = cc in
-        (t, h, λ i. record { kind = kind_is i; info_len = size_is i; place = place_is i }, cc)
+pub ruleset answers = (brief_at, beyond_at, whole_at)

@@ -1,43 +1,41 @@
 -- What the reader answers, for every input.
-use Rattle.std.specs.Prelude.{ℕ, ◌+◌, ◌-◌, List, [], ◌∷◌, length, drop, leb, ltb}
+use Rattle.std.specs.Prelude.{ℕ, ◌-◌, List, [], ◌∷◌, length, drop, leb, ltb, Result}
 use Rattle.wire.specs.Number as Number
 use Rattle.wire.specs.Bytes.{pick, num_at}
 use Rattle.wire.specs.Refusal.{refusal}
-use Rattle.cursor.specs.Read.{cursor}
 use Rattle.wire.specs.Tlv.{Tlv, size_of}
 use Rattle.wire.specs.TlvAt.{tlv_of, tail_of, stop_at}
 use Rattle.wire.specs.Walk as Walk
-use Rattle.wire.specs.Walk.{stop, bad, item, Kit, Out, good, refused, read_from}
+use Rattle.wire.specs.Walk.{stop, item, Kit, Out, good, refused, read_from}
 use Rattle.wire.specs.Exactly.{Reader}
+use Rattle.wire.specs.declared.Refusal.{Refusal}
+use Rattle.walk.specs.Walk.{kit_of, step_of}
+use Rattle.walk.specs.declared.Step.{Step}
 use Rattle.initiation_message.specs.Told as Told
 use Rattle.initiation_message.specs.Grammar.{places, grammar}
-use Rattle.initiation_message.specs.Shown.{entry, zero_tlv, good_answer, refused_answer, shown}
+use Rattle.initiation_message.specs.Shown.{entry, zero_tlv, ReadInitiation, good_answer, refused_answer, refusal_of, tail_at, shown}
 use Rattle.initiation_message.specs.declared.InitiationTlv.{InitiationTlv}
-use Rattle.initiation_message.specs.declared.InitiationAnswer.{InitiationAnswer}
-use Rattle.initiation_message.specs.declared.Step.{Step}
-use Rattle.initiation_message.specs.declared.Step.TheVariants.{Stop, Whole}
 
 -- while more than 4 bytes are left: a TLV that is all there, or the end
 unfoldable pub step : List ℕ → Walk.Step Tlv
 step s = pick (leb (length s) 4) stop (pick (ltb (length s - 4) (num_at 2 s 2)) stop (item (tlv_of s)))
 
 abbrev pub kit : Kit
-kit = record { Item = Tlv; Entry = InitiationTlv; step = step; size = size_of; entry = entry; none = zero_tlv; limit = places }
+kit = kit_of Tlv InitiationTlv step size_of entry zero_tlv places
 
--- one step at a place, as the code answers it: the stop, or the numbers of the entry and the cursor past it; there is no fault
-abbrev pub as_step : ℕ → List ℕ → Walk.Step Tlv → Step
-as_step at s stop = Stop (stop_at at (tail_of s))
-as_step at s (bad r) = Stop 0
-as_step at s (item t) = Whole t.kind t.size (at + 4) (cursor (at + size_of t))
+-- where a walk stops that finds no TLV in some bytes, which stand at a place: behind a head whose value is not all there
+abbrev pub stop_behind : ℕ → List ℕ → ℕ
+stop_behind at s = stop_at at (tail_of s)
 
-abbrev pub step_at : List ℕ → ℕ → Step
-step_at s at = as_step at (drop at s) (step (drop at s))
+-- one step at a place, as the code answers it; there is no fault
+abbrev pub step_at : List ℕ → ℕ → Result (Step InitiationTlv) Refusal
+step_at s at = step_of entry size_of stop_behind at (drop at s) (step (drop at s))
 
-abbrev pub answer : Out InitiationTlv → InitiationAnswer
+abbrev pub answer : Out InitiationTlv → ReadInitiation
 answer (good n at table z) = good_answer n at table (tail_of z)
 answer (refused r) = refused_answer r
 
-abbrev pub read_initiation : List ℕ → InitiationAnswer
+abbrev pub read_initiation : List ℕ → ReadInitiation
 read_initiation s =
     pick (ltb Number.limit (length s)) (refused_answer (refusal Number.TooLong 0)) (answer (read_from kit (length s) 0 s))
 
@@ -50,12 +48,12 @@ abbrev pub reader : Reader
 reader =
     record {
       grammar = grammar;
-      Answer = InitiationAnswer;
+      Answer = ReadInitiation;
       read = read_initiation;
       shown = shown;
-      tail_at = λ a. a.tail;
+      tail_at = tail_at;
       told = Told.told;
       refused = refused_answer;
-      refusal_of = λ a. a.refusal;
+      refusal_of = refusal_of;
       numbers = numbers;
     }

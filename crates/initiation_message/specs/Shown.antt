@@ -1,5 +1,5 @@
 -- How a reading is shown in the answer. Nothing here takes an input apart.
-use Rattle.std.specs.Prelude.{ℕ, ◌+◌, ◌-◌, List, [], ◌∷◌, ◌++◌, length, replicate, get_or}
+use Rattle.std.specs.Prelude.{ℕ, ◌+◌, ◌-◌, List, [], ◌∷◌, ◌++◌, length, replicate, get_or, Result, Ok, Err}
 use Rattle.wire.specs.Refusal.{no_refusal}
 use Rattle.wire.specs.View.{view}
 use Rattle.wire.specs.Parts.{shown_from, end_from}
@@ -31,9 +31,6 @@ kind_of (Unknown n) = n
 abbrev pub zero_tlv : InitiationTlv
 zero_tlv = record { kind = 0; info_len = 0; place = 0 }
 
-unfoldable pub zero_table : List InitiationTlv
-zero_table = replicate places zero_tlv
-
 -- a TLV as the table shows it, where it starts at a place
 abbrev pub entry : ℕ → Tlv → InitiationTlv
 entry at t = record { kind = t.kind; info_len = t.size; place = at + 4 }
@@ -42,15 +39,32 @@ entry at t = record { kind = t.kind; info_len = t.size; place = at + 4 }
 abbrev pub info_of : InitiationTlv → View
 info_of t = view t.place t.info_len
 
-abbrev pub good_answer : ℕ → ℕ → List InitiationTlv → Tail → InitiationAnswer
-good_answer count end table t =
-    record { refusal = no_refusal; stop = stop_at end t; tail = end; message = record { tlvs = table; count = count } }
+-- what the reader answers: a record, or the refusal alone
+abbrev pub ReadInitiation : Type 0
+ReadInitiation = Result InitiationAnswer Refusal
 
-abbrev pub refused_answer : Refusal → InitiationAnswer
-refused_answer r = record { refusal = r; stop = 0; tail = 0; message = record { tlvs = zero_table; count = 0 } }
+abbrev pub good_answer : ℕ → ℕ → List InitiationTlv → Tail → ReadInitiation
+good_answer count end table t =
+    Ok (record { stop = stop_at end t; tail = end; message = record { tlvs = table; count = count } })
+
+abbrev pub refused_answer : Refusal → ReadInitiation
+refused_answer r = Err r
+
+-- what an answer says: its refusal, its stop and where its tail starts, both zero where it refuses
+abbrev pub refusal_of : ReadInitiation → Refusal
+refusal_of (Ok a) = no_refusal
+refusal_of (Err r) = r
+
+abbrev pub stop_of : ReadInitiation → ℕ
+stop_of (Ok a) = a.stop
+stop_of (Err r) = 0
+
+abbrev pub tail_at : ReadInitiation → ℕ
+tail_at (Ok a) = a.tail
+tail_at (Err r) = 0
 
 -- the good answer: the TLVs in order, entries past the count zero, the tail's start where the last TLV ends
-abbrev pub shown : Reading → InitiationAnswer
+abbrev pub shown : Reading → ReadInitiation
 shown r =
     good_answer (length r.tlvs) (end_from size_of 0 r.tlvs)
     (shown_from size_of entry 0 r.tlvs ++ replicate (places - length r.tlvs) zero_tlv) r.tail

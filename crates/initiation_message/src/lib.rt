@@ -1,13 +1,13 @@
 // The body of a BMP Initiation message (RFC 7854, section 4.3).
 #![tactic(auto)]
 
-ghost use Rattle.std.specs.Prelude.{◌≡◌, ◌≤◌, length};
-ghost use Rattle.wire.specs.Number as Number;
-ghost use Rattle.initiation_message.specs.Shown.{type_of, kind_of, info_of, zero_tlv, refused_answer};
-ghost use Rattle.initiation_message.specs.Read.{step_at, read_initiation};
+ghost use Rattle.std.specs.Prelude.{◌≡◌};
+ghost use Rattle.wire.specs.Tlv.{Tlv, size_of};
+ghost use Rattle.initiation_message.specs.Shown.{type_of, kind_of, info_of, entry, zero_tlv};
+ghost use Rattle.initiation_message.specs.Read.{step, stop_behind, read_initiation};
 
 use cursor::Cursor;
-use tlv_head::TlvHead;
+use walk::{Entry, Step};
 use wire::{Refusal, View};
 
 #[derive(Clone, Copy)]
@@ -38,21 +38,14 @@ pub struct InitiationMessage {
 // The stop is what the Rust has consumed, the tail starts where the last TLV ends: after an oversized length they differ by 4.
 #[derive(Clone, Copy)]
 pub struct InitiationAnswer {
-    pub refusal: Refusal,
     pub stop: usize,
     pub tail: usize,
     pub message: InitiationMessage,
 }
 
-// What stands at a place of the walk: its end with the stop place, or the three numbers of a TLV and the cursor past it.
-#[derive(Clone, Copy)]
-enum Step {
-    Stop(usize),
-    Whole(u16, u16, u32, Cursor),
-}
-
 impl InitiationTlvType {
     // The number that stands for the type on the wire.
+    #[tactic(auto, unfolding(crate::specs::Shown::kind_of))]
     pub fn number(self) -> u16
         ensures { result ≡ kind_of self }
     {
@@ -69,6 +62,7 @@ impl InitiationTlvType {
 
 impl InitiationTlv {
     // The name of the TLV's type.
+    #[tactic(auto, unfolding(crate::specs::Shown::type_of))]
     pub fn info_type(self) -> InitiationTlvType
         ensures { result ≡ type_of self.kind }
     {
@@ -95,88 +89,55 @@ impl InitiationTlv {
 }
 
 // Reads the body of an Initiation message: its TLVs, up to 32, and where its tail starts.
-pub fn parse_initiation_message(s: &[u8]) -> InitiationAnswer
+pub fn parse_initiation_message(s: &[u8]) -> Result<InitiationAnswer, Refusal>
     ensures { result ≡ read_initiation s.now }
 {
-    if wire::LIMIT < s.len() {
-        return refused(wire::refusal_at(wire::TOO_LONG, 0));
-    }
-    let zero = zero_tlv();
-    let mut tlvs = [zero; wire::TLV_PLACES];
-    let mut count: usize = 0;
-    let mut at: usize = 0;
-    let stop = loop {
-        match step_at(s, at) {
-            Step::Stop(place) => break place,
-            Step::Whole(kind, size, place, next) => {
-                if wire::TLV_PLACES <= count {
-                    return refused(wire::refusal_at(wire::TOO_MANY, at));
-                }
-                tlvs[count] = InitiationTlv {
-                    kind: kind,
-                    info_len: size,
-                    place: place,
-                };
-                count += 1;
-                at = next.at;
-            }
-        }
-    };
-    InitiationAnswer {
-        refusal: wire::no_refusal(),
-        stop: stop,
-        tail: at,
-        message: InitiationMessage {
-            tlvs: tlvs,
-            count: count,
-        },
-    }
-}
-
-// A TLV is read while more than a head is left.
-fn step_at(s: &[u8], at: usize) -> Step
-    requires { length s.now ≤ Number.limit }
-    ensures { result ≡ step_at s.now at }
-{
-    let start = Cursor { at: at };
-    let TlvHead::Found(kind, size, value) = tlv_head::read_head(start, s, 1) else {
-        return Step::Stop(at);
-    };
-    let place = value.at;
-    if wire::left(s, place) < (size as usize) {
-        return Step::Stop(place);
-    }
-    Step::Whole(
-        kind,
-        size,
-        place as u32,
-        Cursor {
-            at: place + (size as usize),
-        },
-    )
-}
-
-fn zero_tlv() -> InitiationTlv
-    ensures { result ≡ zero_tlv }
-{
-    InitiationTlv {
+    let none = InitiationTlv {
         kind: 0,
         info_len: 0,
         place: 0,
-    }
+    };
+    let mut tlvs = [none; wire::TLV_PLACES];
+    let walked = walk::walk(s, 0, s.len(), &mut tlvs)?;
+    Ok(InitiationAnswer {
+        stop: walked.stop,
+        tail: walked.end,
+        message: InitiationMessage {
+            tlvs,
+            count: walked.count,
+        },
+    })
 }
 
-fn refused(refusal: Refusal) -> InitiationAnswer
-    ensures { result ≡ refused_answer refusal }
-{
-    let zero = zero_tlv();
-    InitiationAnswer {
-        refusal: refusal,
-        stop: 0,
-        tail: 0,
-        message: InitiationMessage {
-            tlvs: [zero; wire::TLV_PLACES],
-            count: 0,
-        },
+impl Entry for InitiationTlv {
+    ghost Item = { Tlv };
+
+    ghost step = { step };
+
+    ghost size = { size_of };
+
+    ghost entry = { entry };
+
+    ghost none = { zero_tlv };
+
+    ghost stop_at = { stop_behind };
+
+    // A TLV is read while more than a head is left. None is refused: what is not whole is the tail.
+    #[tactic(auto, using(crate::proofs::Steps::answers))]
+    fn step_at(s: &[u8], at: usize) -> Result<Step<InitiationTlv>, Refusal> {
+        let Some(head) = tlv_head::read_head(Cursor { at }, s, 1) else {
+            return Ok(Step::Stop(at));
+        };
+        let place = head.value.at;
+        let size = head.length as usize;
+        if wire::left(s, place) < size {
+            return Ok(Step::Stop(place));
+        }
+        let tlv = InitiationTlv {
+            kind: head.kind,
+            info_len: head.length,
+            place: place as u32,
+        };
+        Ok(Step::Whole(tlv, Cursor { at: place + size }))
     }
 }

@@ -1,17 +1,14 @@
 -- The table of kept counters, as a loop fills it. Assumes nothing.
 use mathlib.Core.Path.{◌≡◌, refl, sym, ap, ◌∙◌}
-use Prim.Native.Nat.{ℕ, suc, ◌+◌, ◌-◌, ◌<◌, ◌≤◌}
+use Prim.Native.Nat.{ℕ, suc, ◌+◌, ◌-◌, ◌<◌}
 use mathlib.Core.List.{List, [], ◌∷◌, ◌++◌, map}
-use mathlib.Core.Bool.{Bool, true, false}
 use native.Mathlib.Numerals.{add-one}
 use native.Mathlib.Omega.{arith}
-use borrow.Author.Tests.{ltb-false}
-use lib.Dec.{ltb}
 use lib.ListN.{length, replicate, take, get_or, set, length-map}
 use lib.Seq.{take-suc, set_at, length-take-le}
 use Rattle.stats_report.specs.Grammar.{places}
 use Rattle.stats_report.specs.declared.StatCounter.{StatCounter}
-use Rattle.kept_report.specs.Kept.{kept_counter, no_counter, table, table_count}
+use Rattle.kept_report.specs.Kept.{kept_counter, no_counter, table}
 use Rattle.kept_report.specs.declared.KeptCounter.{KeptCounter}
 
 -- one more at the end
@@ -40,11 +37,3 @@ turn t i d h room =
 pub begins : (t : List StatCounter) → table (take 0 t) ≡ replicate places no_counter
 unfolding table
 begins t = refl
-
--- a report has no more than its table
-pub at_most : (count n : ℕ) → n ≡ table_count count → n ≤ places
-at_most count n e = by (ltb places count) refl
-  where
-    by : (t : Bool) → ltb places count ≡ t → n ≤ places
-    by true h = let z : n ≡ places = e ∙ rw h in omega arith
-    by false h = let z : n ≡ count = e ∙ rw h in let y = ltb-false places count h in omega arith

@@ -1,5 +1,5 @@
 -- What is kept of a Statistics Report.
-use Rattle.std.specs.Prelude.{ℕ, ◌-◌, Bool, true, false, List, ◌++◌, map, ltb, length, replicate, take}
+use Rattle.std.specs.Prelude.{ℕ, ◌-◌, Bool, true, false, List, ◌++◌, map, min, length, replicate, take}
 use Rattle.wire.specs.Bytes.{pick}
 use Rattle.stats_data.specs.Shown.{data_of}
 use Rattle.stats_data.specs.declared.StatsData.{StatsData}
@@ -37,7 +37,7 @@ unfoldable pub table : List StatCounter → List KeptCounter
 table counters = map kept_counter counters ++ replicate (places - length counters) no_counter
 
 abbrev pub table_count : ℕ → ℕ
-table_count count = pick (ltb places count) places count
+table_count count = min count places
 
 -- the first count counters of the report's table
 unfoldable pub kept_report : StatsReport → KeptReport

@@ -3,7 +3,7 @@
 
 ghost use Rattle.std.specs.Prelude.{◌≡◌};
 ghost use Rattle.stats_type.specs.Shown.{type_of};
-ghost use Rattle.kept_report.specs.Kept.{counter_of, is_raw, kept_counter, kept_report, kept_data, no_report, table_count};
+ghost use Rattle.kept_report.specs.Kept.{counter_of, kept_counter, kept_report, kept_data, no_report};
 
 use stats_data::StatsData;
 use stats_report::{StatCounter, StatsReport};
@@ -73,33 +73,17 @@ pub fn keep(report: StatsReport) -> KeptReport
 {
     let zero = counter_of(0, 0, 0, 0, 0);
     let mut counters = [zero; stats_report::COUNTER_PLACES];
-    let count = table_count(report.count);
-    let mut i: usize = 0;
-    while i < count {
-        let counter = report.counters[i];
-        let kept = kept_counter(counter);
-        counters[i] = kept;
-        i += 1;
+    let count = report.count.min(stats_report::COUNTER_PLACES);
+    for i in 0..count {
+        counters[i] = kept_counter(report.counters[i]);
     }
-    KeptReport {
-        counters: counters,
-        count: count,
-    }
-}
-
-fn table_count(count: usize) -> usize
-    ensures { result ≡ table_count count }
-{
-    if stats_report::COUNTER_PLACES < count {
-        return stats_report::COUNTER_PLACES;
-    }
-    count
+    KeptReport { counters, count }
 }
 
 fn kept_counter(counter: StatCounter) -> KeptCounter
     ensures { result ≡ kept_counter counter }
 {
-    if is_raw(counter.stat_data()) {
+    if matches!(counter.stat_data(), StatsData::Unknown(_)) {
         return counter_of(counter.kind, counter.stat_len, 0, 0, 0);
     }
     counter_of(
@@ -111,25 +95,14 @@ fn kept_counter(counter: StatCounter) -> KeptCounter
     )
 }
 
-fn is_raw(said: StatsData) -> bool
-    ensures { result ≡ is_raw said }
-{
-    match said {
-        StatsData::Counter(_) => false,
-        StatsData::Gauge(_) => false,
-        StatsData::AfiSafiGauge(_, _, _) => false,
-        StatsData::Unknown(_) => true,
-    }
-}
-
 fn counter_of(kind: u16, stat_len: u16, afi: u16, safi: u16, value: u64) -> KeptCounter
     ensures { result ≡ counter_of kind stat_len afi safi value }
 {
     KeptCounter {
-        kind: kind,
-        stat_len: stat_len,
-        afi: afi,
-        safi: safi,
-        value: value,
+        kind,
+        stat_len,
+        afi,
+        safi,
+        value,
     }
 }

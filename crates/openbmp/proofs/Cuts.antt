@@ -14,15 +14,14 @@ use Rattle.wire.proofs.Bytes.{number_none}
 use Rattle.wire.specs.Lacking.{total}
 use Rattle.layout.specs.Layout.{cut_in}
 use Rattle.openbmp.specs.Grammar.{widths}
-use Rattle.openbmp.specs.Shown.{shown, refused}
+use Rattle.openbmp.specs.Shown.{OpenBmpResult, shown, refused, refusal_of}
 use Rattle.openbmp.specs.Read.{parts_of, cut, after_row_count, after_group_length, after_admin_length, after_type, after_flags, after_versions, after_magic, read_open_bmp_header}
-use Rattle.openbmp.specs.declared.OpenBmpAnswer.{OpenBmpAnswer}
 
-abbrev WasCut : OpenBmpAnswer → Type 0
-WasCut x = x.refusal.number ≡ Number.Cut
+abbrev WasCut : OpenBmpResult → Type 0
+WasCut x = (refusal_of x).number ≡ Number.Cut
 
 -- a stage whose judgment is no Cut: its own length was too short, or it went on
-stage : (G : OpenBmpAnswer → Type 0) (test short : Bool) (x y z : OpenBmpAnswer) → (WasCut z → ⊥) → (short ≡ true → WasCut x → G x) → (WasCut y → G y)
+stage : (G : OpenBmpResult → Type 0) (test short : Bool) (x y z : OpenBmpResult) → (WasCut z → ⊥) → (short ≡ true → WasCut x → G x) → (WasCut y → G y)
     → WasCut (pick test (pick short x y) z) → G (pick test (pick short x y) z)
 stage G true true x y z judged here on e = here refl e
 stage G true false x y z judged here on e = on e
@@ -33,8 +32,8 @@ abbrev pub widths_in : List ℕ → List ℕ
 widths_in s = widths (number_at 2 s 38) (number_at 2 s (72 + number_at 2 s 38))
 
 module _ (s : List ℕ) where
-  abbrev Lacks : OpenBmpAnswer → Type 0
-  Lacks x = (x.refusal ≡ cut_in (widths_in s) 0 (length s)) × (length s < total (widths_in s))
+  abbrev Lacks : OpenBmpResult → Type 0
+  Lacks x = (refusal_of x ≡ cut_in (widths_in s) 0 (length s)) × (length s < total (widths_in s))
 
   -- before the admin's length was read, and before the group's
   early : length s < 40 → Lacks (cut (length s) 0 0)

@@ -15,9 +15,8 @@ use Rattle.wire.specs.Bytes.{be}
 use Rattle.layout.specs.Layout.{cut_in}
 use Rattle.layout.proofs.Promises.{first_lacking}
 use Rattle.openbmp.specs.Grammar.{Reading, join, Good, grammar, parts, widths}
-use Rattle.openbmp.specs.Shown.{shown_header, shown}
+use Rattle.openbmp.specs.Shown.{OpenBmpResult, shown_header, shown, refusal_of}
 use Rattle.openbmp.specs.Read.{read_open_bmp_header, reader}
-use Rattle.openbmp.specs.declared.OpenBmpAnswer.{OpenBmpAnswer}
 use Rattle.openbmp.proofs.Laws.{parts_in, parts_join, join_parts, parts_good, join_accepted, admin_viewed, group_viewed, length_ip}
 use Rattle.openbmp.proofs.Stages.{accepted, shows_parts}
 use Rattle.openbmp.proofs.Cuts.{widths_in, header_lacks}
@@ -56,8 +55,8 @@ pub unique : Unique grammar
 unique r q g h e = sym (parts_join r g) ∙ ap parts_in e ∙ parts_join q h
 
 -- A header that is cut is refused at the first field that lacks bytes, by the widths that the lengths in it give, with as many missing as it lacks.
-pub refuses_cut : (s : List ℕ) → (read_open_bmp_header s).refusal.number ≡ Number.Cut
-    → ((read_open_bmp_header s).refusal ≡ cut_in (widths_in s) 0 (length s)) × FirstLacking (widths_in s) 0 (length s) (cut_in (widths_in s) 0 (length s))
+pub refuses_cut : (s : List ℕ) → (refusal_of (read_open_bmp_header s)).number ≡ Number.Cut
+    → (refusal_of (read_open_bmp_header s) ≡ cut_in (widths_in s) 0 (length s)) × FirstLacking (widths_in s) 0 (length s) (cut_in (widths_in s) 0 (length s))
 refuses_cut s e =
     let c = header_lacks s e in
     (c.0, first_lacking (widths_in s) 0 (length s) (omega arith) (omega (arith, c.1)))
@@ -79,5 +78,5 @@ pub views : (r : Reading) → Good r
 views r g = (admin_viewed r g, group_viewed r g)
 
 -- ---- any two answers that the contracts allow are equal
-pub parse_determined : (s : List ℕ) (a b : OpenBmpAnswer) → a ≡ read_open_bmp_header s → b ≡ read_open_bmp_header s → a ≡ b
+pub parse_determined : (s : List ℕ) (a b : OpenBmpResult) → a ≡ read_open_bmp_header s → b ≡ read_open_bmp_header s → a ≡ b
 parse_determined s a b = determined

@@ -13,16 +13,15 @@ use Rattle.wire.specs.Refusal.{refusal}
 use Rattle.wire.proofs.Bytes.{number_is}
 use Rattle.layout.proofs.Cuts.{cut_number}
 use Rattle.openbmp.specs.Grammar.{widths}
-use Rattle.openbmp.specs.Shown.{shown, refused}
+use Rattle.openbmp.specs.Shown.{OpenBmpResult, shown, refused, refusal_of}
 use Rattle.openbmp.specs.Read.{parts_of, cut, after_row_count, after_group_length, after_admin_length, after_type, after_flags, after_versions, after_magic, read_open_bmp_header}
-use Rattle.openbmp.specs.declared.OpenBmpAnswer.{OpenBmpAnswer}
 use Rattle.openbmp.proofs.Laws.{admin_of, group_of, parts_in, Accepted}
 
-abbrev Fine : OpenBmpAnswer → Type 0
-Fine x = x.refusal.number ≡ Number.Good
+abbrev Fine : OpenBmpResult → Type 0
+Fine x = (refusal_of x).number ≡ Number.Good
 
 -- a stage that refuses on one side of each of its two tests was passed on the other
-passed : (test short : Bool) (x y z : OpenBmpAnswer) → (short ≡ true → Fine x → ⊥) → (Fine z → ⊥) → Fine (pick test (pick short x y) z)
+passed : (test short : Bool) (x y z : OpenBmpResult) → (short ≡ true → Fine x → ⊥) → (Fine z → ⊥) → Fine (pick test (pick short x y) z)
     → (test ≡ true) × (short ≡ false)
 passed true false x y z nx nz e = (refl, refl)
 passed true true x y z nx nz e = absurd (nx refl e)

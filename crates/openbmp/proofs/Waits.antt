@@ -12,14 +12,13 @@ use Rattle.wire.specs.Bytes.{pick, number_at, flag}
 use Rattle.wire.specs.Refusal.{refusal}
 use Rattle.wire.specs.Lacking.{total}
 use Rattle.wire.specs.Waits.{Never, Waits, MissingTells}
-use Rattle.wire.specs.declared.Refusal.{Refusal}
 use Rattle.wire.proofs.Waits.{Judge, by_number_at, said, said_by, ends, good, test, given, waits_by, tells_by}
 use Rattle.layout.specs.Layout.{cut_in}
 use Rattle.layout.proofs.Cuts.{cut_among}
 use Rattle.layout.proofs.Waits.{fields, fields_judge}
 use Rattle.openbmp.specs.Grammar.{widths}
+use Rattle.openbmp.specs.Shown.{OpenBmpResult, refusal_of}
 use Rattle.openbmp.specs.Read.{cut, after_row_count, after_group_length, after_admin_length, after_type, after_flags, after_versions, after_magic, read_open_bmp_header, reader}
-use Rattle.openbmp.specs.declared.OpenBmpAnswer.{OpenBmpAnswer}
 
 -- ---- its stages, the last first: what each judges, and the fields that it needs next
 row_count : (Again : List ℕ → ℕ → ℕ → Type 0) (a g : ℕ) → Judge Again (78 + a + g) (78 + a + g)
@@ -71,16 +70,12 @@ judged : Judge Never 0 0
 judged = fields (4 ∷ []) 0 4 refl magic
 
 -- ---- and that the reader's stages are these
-refusal_of : OpenBmpAnswer → Refusal
-refusal_of a = a.refusal
-
 module _ (s : List ℕ) where
   -- the fields of a stage are those from the i-th to the j-th of all
   stage : {Again : List ℕ → ℕ → ℕ → Type 0} (a g i j : ℕ) (ws : List ℕ) → widths a g ≡ take i (widths a g) ++ (ws ++ drop j (widths a g)) → (at end : ℕ)
       → total (take i (widths a g)) ≡ at
-      → (e : at + total ws ≡ end) (x : Judge Again end end) (y : OpenBmpAnswer) → at ≤ length s → (end ≤ length s → refusal_of y ≡ x.judge s)
+      → (e : at + total ws ≡ end) (x : Judge Again end end) (y : OpenBmpResult) → at ≤ length s → (end ≤ length s → refusal_of y ≡ x.judge s)
       → refusal_of (pick (ltb (length s) end) (cut (length s) a g) y) ≡ (fields {known = at} ws at end e x).judge s
-  unfolding refusal_of
   stage a g i j ws split at end starts e x y inside on =
       said_by refusal_of (ltb (length s) end)
       (λ h. let few = ltb-true (length s) end h in ap (λ (l : List ℕ). cut_in l 0 (length s)) split ∙ cut_among (take i (widths a g)) ws (drop j (widths a g)) at (length s) starts inside (omega arith))
@@ -88,7 +83,7 @@ module _ (s : List ℕ) where
       ∙ sym (fields_judge at ws at end e x s inside)
 
   row-count : (Again : List ℕ → ℕ → ℕ → Type 0) (a g : ℕ) → refusal_of (after_row_count s a g (number_at 4 s (74 + a + g))) ≡ (row_count Again a g).judge s
-  unfolding refusal_of after_row_count row_count test ends good
+  unfolding after_row_count row_count test ends good
   row-count Again a g = said refusal_of (eqb (number_at 4 s (74 + a + g)) 1) refl refl
 
   group-length : (Again : List ℕ → ℕ → ℕ → Type 0) (a : ℕ) → 74 + a ≤ length s
@@ -107,31 +102,31 @@ module _ (s : List ℕ) where
       (group_length _ a) _ inside (group-length _ a)
 
   object-type : 14 ≤ length s → refusal_of (after_type s (number_at 1 s 13)) ≡ object_type.judge s
-  unfolding refusal_of after_type object_type test ends
+  unfolding after_type object_type test ends
   object-type inside =
       said refusal_of (eqb (number_at 1 s 13) 12)
       (stage 0 0 7 11 (4 ∷ 4 ∷ 16 ∷ 2 ∷ []) refl 14 40 refl refl admin_length _ inside admin-length) refl
 
   flag_byte : 13 ≤ length s → refusal_of (after_flags s (number_at 1 s 12)) ≡ flags.judge s
-  unfolding refusal_of after_flags flags test ends
+  unfolding after_flags flags test ends
   flag_byte inside =
       said refusal_of (flag 0x80 (number_at 1 s 12))
       (stage 0 0 6 7 (1 ∷ []) refl 13 14 refl refl object_type _ inside object-type) refl
 
   both_versions : 6 ≤ length s → refusal_of (after_versions s (number_at 1 s 4) (number_at 1 s 5)) ≡ versions.judge s
-  unfolding refusal_of after_versions versions is_seven test ends
+  unfolding after_versions versions is_seven test ends
   both_versions inside =
       said refusal_of (eqb (number_at 1 s 4) 1 && eqb (number_at 1 s 5) 7)
       (stage 0 0 3 6 (2 ∷ 4 ∷ 1 ∷ []) refl 6 13 refl refl flags _ inside flag_byte) refl
 
   magic_number : 4 ≤ length s → refusal_of (after_magic s (number_at 4 s 0)) ≡ magic.judge s
-  unfolding refusal_of after_magic magic test ends
+  unfolding after_magic magic test ends
   magic_number inside =
       said refusal_of (eqb (number_at 4 s 0) 0x4F424D50)
       (stage 0 0 1 3 (1 ∷ 1 ∷ []) refl 4 6 refl refl versions _ inside both_versions) refl
 
-  reads : (read_open_bmp_header s).refusal ≡ pick (ltb Number.limit (length s)) (refusal Number.TooLong 0) (judged.judge s)
-  unfolding refusal_of judged
+  reads : refusal_of (read_open_bmp_header s) ≡ pick (ltb Number.limit (length s)) (refusal Number.TooLong 0) (judged.judge s)
+  unfolding judged
   reads =
       said refusal_of (ltb Number.limit (length s)) refl
       (stage 0 0 0 1 (4 ∷ []) refl 0 4 refl refl magic _ (omega arith) magic_number)

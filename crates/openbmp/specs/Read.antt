@@ -11,8 +11,7 @@ use Rattle.models.specs.declared.Afi.{Afi}
 use Rattle.models.specs.declared.Afi.TheVariants.{Ipv4, Ipv6}
 use Rattle.openbmp.specs.Grammar.{widths, RouterIp, ipv4, ipv6, Reading, grammar}
 use Rattle.openbmp.specs.Told as Told
-use Rattle.openbmp.specs.Shown.{shown, refused}
-use Rattle.openbmp.specs.declared.OpenBmpAnswer.{OpenBmpAnswer}
+use Rattle.openbmp.specs.Shown.{OpenBmpResult, shown, refused, refusal_of, stop_of}
 
 -- the sixteen bytes of an address taken apart by its family, and the family by the flags
 abbrev pub router_ip_of : Afi → List ℕ → RouterIp
@@ -49,44 +48,44 @@ parts_of s a g =
     }
 
 -- the first field that lacks bytes; a length that was not read yet is 0, and stands behind that field
-abbrev pub cut : ℕ → ℕ → ℕ → OpenBmpAnswer
+abbrev pub cut : ℕ → ℕ → ℕ → OpenBmpResult
 cut n a g = refused (cut_in (widths a g) 0 n)
 
-unfoldable pub after_row_count : List ℕ → ℕ → ℕ → ℕ → OpenBmpAnswer
+unfoldable pub after_row_count : List ℕ → ℕ → ℕ → ℕ → OpenBmpResult
 after_row_count s a g rows = pick (eqb rows 1) (shown (parts_of s a g)) (refused (refusal Number.BadOpenBmp (74 + a + g)))
 
-unfoldable pub after_group_length : List ℕ → ℕ → ℕ → OpenBmpAnswer
+unfoldable pub after_group_length : List ℕ → ℕ → ℕ → OpenBmpResult
 after_group_length s a g =
     pick (ltb (length s) (78 + a + g)) (cut (length s) a g) (after_row_count s a g (number_at 4 s (74 + a + g)))
 
-unfoldable pub after_admin_length : List ℕ → ℕ → OpenBmpAnswer
+unfoldable pub after_admin_length : List ℕ → ℕ → OpenBmpResult
 after_admin_length s a = pick (ltb (length s) (74 + a)) (cut (length s) a 0) (after_group_length s a (number_at 2 s (72 + a)))
 
-unfoldable pub after_type : List ℕ → ℕ → OpenBmpAnswer
+unfoldable pub after_type : List ℕ → ℕ → OpenBmpResult
 after_type s kind =
     pick (eqb kind 12)
     (pick (ltb (length s) 40) (cut (length s) 0 0) (after_admin_length s (number_at 2 s 38)))
     (refused (refusal Number.Unsupported 13))
 
-unfoldable pub after_flags : List ℕ → ℕ → OpenBmpAnswer
+unfoldable pub after_flags : List ℕ → ℕ → OpenBmpResult
 after_flags s flags =
     pick (flag 0x80 flags)
     (pick (ltb (length s) 14) (cut (length s) 0 0) (after_type s (number_at 1 s 13)))
     (refused (refusal Number.Unsupported 12))
 
-unfoldable pub after_versions : List ℕ → ℕ → ℕ → OpenBmpAnswer
+unfoldable pub after_versions : List ℕ → ℕ → ℕ → OpenBmpResult
 after_versions s major minor =
     pick (eqb major 1 && eqb minor 7)
     (pick (ltb (length s) 13) (cut (length s) 0 0) (after_flags s (number_at 1 s 12)))
     (refused (refusal Number.BadOpenBmp 4))
 
-unfoldable pub after_magic : List ℕ → ℕ → OpenBmpAnswer
+unfoldable pub after_magic : List ℕ → ℕ → OpenBmpResult
 after_magic s magic =
     pick (eqb magic 0x4F424D50)
     (pick (ltb (length s) 6) (cut (length s) 0 0) (after_versions s (number_at 1 s 4) (number_at 1 s 5)))
     (refused (refusal Number.BadOpenBmp 0))
 
-abbrev pub read_open_bmp_header : List ℕ → OpenBmpAnswer
+abbrev pub read_open_bmp_header : List ℕ → OpenBmpResult
 read_open_bmp_header s =
     pick (ltb Number.limit (length s)) (refused (refusal Number.TooLong 0))
     (pick (ltb (length s) 4) (cut (length s) 0 0) (after_magic s (number_at 4 s 0)))
@@ -100,12 +99,12 @@ abbrev pub reader : Reader
 reader =
     record {
       grammar = grammar;
-      Answer = OpenBmpAnswer;
+      Answer = OpenBmpResult;
       read = read_open_bmp_header;
       shown = shown;
-      tail_at = λ a. a.stop;
+      tail_at = stop_of;
       told = Told.told;
       refused = refused;
-      refusal_of = λ a. a.refusal;
+      refusal_of = refusal_of;
       numbers = numbers;
     }

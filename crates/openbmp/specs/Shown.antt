@@ -1,5 +1,5 @@
 -- How a reading is shown in the answer, and what a refusal shows.
-use Rattle.std.specs.Prelude.{◌+◌, ◌++◌, replicate}
+use Rattle.std.specs.Prelude.{ℕ, ◌+◌, Result, Ok, Err, ◌++◌, replicate}
 use Rattle.std.specs.Float.{binary64}
 use Rattle.std.specs.Float.Ieee.{of_bits}
 use Rattle.wire.specs.Refusal.{no_refusal}
@@ -34,11 +34,29 @@ shown_header r =
       router_group = view (74 + r.admin_length) r.group_length;
     }
 
--- the good answer: the header, and its end as the stop
-abbrev pub shown : Reading → OpenBmpAnswer
-shown r = record { refusal = no_refusal; stop = 78 + r.admin_length + r.group_length; header = shown_header r }
+-- what the reader gives: an answer, or why there is none
+abbrev pub OpenBmpResult : Type 0
+OpenBmpResult = Result OpenBmpAnswer Refusal
 
--- a refusal shows nothing: every number is zero, the views are empty and the address is IPv4
+-- the good answer: the header, and its end as the stop
+abbrev pub answer_of : Reading → OpenBmpAnswer
+answer_of r = record { stop = 78 + r.admin_length + r.group_length; header = shown_header r }
+
+abbrev pub shown : Reading → OpenBmpResult
+shown r = Ok (answer_of r)
+
+abbrev pub refused : Refusal → OpenBmpResult
+refused r = Err r
+
+-- what each result says: its refusal, its stop and its header, all zero where it refuses; the views are empty there, and the address is IPv4
+abbrev pub refusal_of : OpenBmpResult → Refusal
+refusal_of (Ok a) = no_refusal
+refusal_of (Err r) = r
+
+abbrev pub stop_of : OpenBmpResult → ℕ
+stop_of (Ok a) = a.stop
+stop_of (Err r) = 0
+
 abbrev pub zero_header : OpenBmpHeader
 zero_header =
     record {
@@ -55,5 +73,6 @@ zero_header =
       router_group = no_view;
     }
 
-abbrev pub refused : Refusal → OpenBmpAnswer
-refused r = record { refusal = r; stop = 0; header = zero_header }
+abbrev pub header_of : OpenBmpResult → OpenBmpHeader
+header_of (Ok a) = a.header
+header_of (Err r) = zero_header

@@ -6,7 +6,7 @@ use Rattle.models.specs.declared.Afi.{Afi}
 use Rattle.models.specs.declared.Afi.TheVariants.{Ipv4, Ipv6}
 use Rattle.openbmp.specs.Grammar.{RouterIp, ipv4, ipv6, bit_of, Reading, Skipped}
 use Rattle.openbmp.specs.declared.OpenBmpHeader.{OpenBmpHeader}
-use Rattle.openbmp.specs.declared.OpenBmpAnswer.{OpenBmpAnswer}
+use Rattle.openbmp.specs.Shown.{OpenBmpResult, header_of}
 
 -- an IPv4 address is the first four octets that are shown
 abbrev pub told_ip : Afi → List ℕ → List ℕ → RouterIp
@@ -38,5 +38,5 @@ told_header look h x tail =
       tail = tail;
     }
 
-abbrev pub told : (View → List ℕ) → OpenBmpAnswer → Skipped → List ℕ → Reading
-told look a x tail = told_header look a.header x tail
+abbrev pub told : (View → List ℕ) → OpenBmpResult → Skipped → List ℕ → Reading
+told look a x tail = told_header look (header_of a) x tail

@@ -14,10 +14,10 @@ use Rattle.wire.specs.Refusal.{refusal, cut_at}
 use Rattle.wire.specs.View.{view}
 use Rattle.wire.proofs.Bytes.{value_be, num_back, bytes_drop}
 use Rattle.peer_down_notification.specs.Grammar.{Data, absent, present, Reading, data_bytes, join, Follows, the_rest, some_rest, no_rest, no_data, Good}
-use Rattle.peer_down_notification.specs.Shown.{reason_of, shown, refusal_of, shown_data, data_of}
+use Rattle.peer_down_notification.specs.Shown.{PeerDownAnswer, reason_of, shown, refusal_of, shown_data, data_of}
 use Rattle.peer_down_notification.specs.Read.{has_data, apart, parts_of, good_of, read_peer_down}
-use Rattle.peer_down_notification.specs.declared.PeerDownData.TheVariants.{Absent, Present}
-use Rattle.peer_down_notification.specs.declared.PeerDownAnswer.{PeerDownAnswer}
+use Rattle.std.specs.declared.option.Option.TheVariants.{Some, None}
+use Rattle.std.specs.declared.result.Result.TheVariants.{Ok, Err}
 use lib.Seq.{take_at}
 use Rattle.wire.proofs.Views.{viewed_part}
 
@@ -129,8 +129,8 @@ accepted s e = go (ltb Number.limit (length s)) refl (has 1 s 0) refl (ltb 6 (nu
     no q = absurd (omega arith)
 
     go : (a : Bool) → ltb Number.limit (length s) ≡ a → (b : Bool) → has 1 s 0 ≡ b → (c : Bool) → ltb 6 (num_at 1 s 0) ≡ c
-        → (refusal_of (pick a (PeerDownAnswer.Refused (refusal Number.TooLong 0))
-        (pick b (pick c (PeerDownAnswer.Refused (refusal Number.UnknownKind 0)) (good_of (num_at 1 s 0) (length s - 1))) (PeerDownAnswer.Refused (cut_at (length s) 0 1))))).number ≡ Number.Good
+        → (refusal_of (pick a (Err (refusal Number.TooLong 0))
+        (pick b (pick c (Err (refusal Number.UnknownKind 0)) (good_of (num_at 1 s 0) (length s - 1))) (Err (cut_at (length s) 0 1))))).number ≡ Number.Good
         → Accepted s
     go true ha b hb c hc q = no q
     go false ha false hb c hc q = no q
@@ -151,10 +151,10 @@ shows_parts s a =
     k = num_at 1 s 0
 
     go : (b : Bool)
-        → pick b (PeerDownAnswer.Good (record { reason = reason_of k; «data» = Present (view 1 (length s - 1)) }) (1 + (length s - 1)))
-        (PeerDownAnswer.Good (record { reason = reason_of k; «data» = Absent }) 1)
-        ≡ shown (apart b k (drop 1 s))
-    go true = λ i. PeerDownAnswer.Good (record { reason = reason_of k; «data» = Present (view 1 (n i)) }) (1 + n i)
+        → ◌≡◌ {A = PeerDownAnswer} (pick b (Ok (record { reason = reason_of k; «data» = Some (view 1 (length s - 1)) }, 1 + (length s - 1)))
+        (Ok (record { reason = reason_of k; «data» = None }, 1)))
+        (shown (apart b k (drop 1 s)))
+    go true = λ i. Ok (record { reason = reason_of k; «data» = Some (view 1 (n i)) }, 1 + n i)
     go false = refl
 
 -- ---- what is shown of a reading's data is that data

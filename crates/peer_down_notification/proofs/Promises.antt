@@ -10,10 +10,9 @@ use Rattle.wire.specs.Refuses.{Refuses}
 use Rattle.wire.specs.Waits.{Waits, MissingTells}
 use Rattle.wire.specs.Exactly.{Sound, Complete, Told, Unique}
 use Rattle.peer_down_notification.specs.Grammar.{Reading, join, grammar}
-use Rattle.peer_down_notification.specs.Shown.{kind_of, shown_data, shown, data_of}
+use Rattle.peer_down_notification.specs.Shown.{PeerDownAnswer, kind_of, shown_data, shown, data_of}
 use Rattle.peer_down_notification.specs.Read.{has_data, parts_of, read_peer_down, reader}
 use Rattle.peer_down_notification.specs.declared.PeerDownReason.{PeerDownReason}
-use Rattle.peer_down_notification.specs.declared.PeerDownAnswer.{PeerDownAnswer}
 use Rattle.peer_down_notification.proofs.Laws.{known_of, reason_there, parts_join, Accepted, parts_good, accepted, shows_parts, data_shown}
 use Rattle.peer_down_notification.proofs.Told as ToldProofs
 use Rattle.peer_down_notification.proofs.Refusals as Refusals

@@ -11,9 +11,8 @@ use Rattle.wire.specs.Refusal.{refusal, no_refusal}
 use Rattle.wire.specs.Waits.{Never, Waits, MissingTells}
 use Rattle.wire.proofs.Refuses.{pick_in}
 use Rattle.wire.proofs.Waits.{Judge, by_number, said, ends, good, test, need, ask, waits_by, tells_by}
-use Rattle.peer_down_notification.specs.Shown.{refusal_of}
+use Rattle.peer_down_notification.specs.Shown.{PeerDownAnswer, refusal_of}
 use Rattle.peer_down_notification.specs.Read.{has_data, read_peer_down, reader}
-use Rattle.peer_down_notification.specs.declared.PeerDownAnswer.{PeerDownAnswer}
 
 -- the reason, which is known
 judged : Judge Never 0 0

@@ -3,8 +3,7 @@ use Rattle.std.specs.Prelude.{ℕ, List}
 use Rattle.wire.specs.Exactly.{Nothing}
 use Rattle.wire.specs.declared.View.{View}
 use Rattle.peer_down_notification.specs.Grammar.{Reading}
-use Rattle.peer_down_notification.specs.Shown.{kind_of, told_data, notification_of}
-use Rattle.peer_down_notification.specs.declared.PeerDownAnswer.{PeerDownAnswer}
+use Rattle.peer_down_notification.specs.Shown.{PeerDownAnswer, kind_of, told_data, notification_of}
 
 abbrev pub told : (View → List ℕ) → PeerDownAnswer → Nothing → List ℕ → Reading
 told look a x tail =

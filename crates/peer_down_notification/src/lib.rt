@@ -1,13 +1,11 @@
 // The body of a BMP Peer Down notification (RFC 7854, section 4.9).
 #![tactic(auto)]
 
-ghost use Rattle.std.specs.Prelude.{◌≡◌, ◌≤◌};
-ghost use Rattle.wire.specs.Number as Number;
-ghost use Rattle.peer_down_notification.specs.declared.PeerDownAnswer.{PeerDownAnswer};
-ghost use Rattle.peer_down_notification.specs.Shown.{reason_of, kind_of};
-ghost use Rattle.peer_down_notification.specs.Read.{has_data, good_of, read_peer_down};
+ghost use Rattle.std.specs.Prelude.{◌≡◌};
+ghost use Rattle.peer_down_notification.specs.Shown.{kind_of};
+ghost use Rattle.peer_down_notification.specs.Read.{named, has_data, read_peer_down};
 
-use cursor::{Cursor, ReadU8};
+use cursor::Cursor;
 use wire::{Refusal, View};
 
 // By their numbers from 0 on. `FsmEven` and `RemoteSystemsClosed` are spelt as the Rust spells them.
@@ -22,28 +20,16 @@ pub enum PeerDownReason {
     LocalSystemClosedTlvDataFollows,
 }
 
-// Data that is there and empty is not the same as no data.
-#[derive(Clone, Copy)]
-pub enum PeerDownData {
-    Absent,
-    Present(View),
-}
-
 #[derive(Clone, Copy)]
 pub struct PeerDownNotification {
     pub reason: PeerDownReason,
-    pub data: PeerDownData,
-}
-
-// The notification and the place after it, or why there is none.
-#[derive(Clone, Copy)]
-pub enum PeerDownAnswer {
-    Good(PeerDownNotification, usize),
-    Refused(Refusal),
+    // Data that is there and empty is not the same as no data.
+    pub data: Option<View>,
 }
 
 impl PeerDownReason {
     // The number that stands for the reason on the wire.
+    #[tactic(auto, unfolding(crate::specs::Shown::kind_of))]
     pub fn number(self) -> u8
         ensures { result ≡ kind_of self }
     {
@@ -59,6 +45,7 @@ impl PeerDownReason {
     }
 
     // Whether the reason has data where this many bytes follow it.
+    #[tactic(auto, unfolding(crate::specs::Shown::kind_of, crate::specs::Read::has_data))]
     pub fn has_data(self, rest: usize) -> bool
         ensures { result ≡ has_data (kind_of self) rest }
     {
@@ -74,58 +61,41 @@ impl PeerDownReason {
     }
 }
 
-// Reads the reason and, by it, the data behind it.
-pub fn parse_peer_down_notification(s: &[u8]) -> PeerDownAnswer
-    ensures { result ≡ read_peer_down s.now }
-{
-    if wire::LIMIT < s.len() {
-        return PeerDownAnswer::Refused(wire::refusal_at(wire::TOO_LONG, 0));
-    }
-    let start = Cursor { at: 0 };
-    match start.read_u8(s) {
-        ReadU8::Cut(refusal) => PeerDownAnswer::Refused(refusal),
-        ReadU8::Good(kind, _) => {
-            if 6 < kind {
-                return PeerDownAnswer::Refused(wire::refusal_at(wire::UNKNOWN_KIND, 0));
-            }
-            good(kind, wire::left(s, 1))
+// The reason that a number stands for; one without a name is refused where it stands, at the body's start.
+impl TryFrom<u8> for PeerDownReason {
+    type Error = Refusal;
+
+    ghost try_from_gives = { λ kind r. r ≡ named kind };
+
+    #[tactic(auto, unfolding(crate::specs::Shown::reason_of))]
+    fn try_from(kind: u8) -> Result<PeerDownReason, Refusal> {
+        match kind {
+            0 => Ok(PeerDownReason::Reserved),
+            1 => Ok(PeerDownReason::LocalSystemClosedNotificationPduFollows),
+            2 => Ok(PeerDownReason::LocalSystemClosedFsmEvenFollows),
+            3 => Ok(PeerDownReason::RemoteSystemClosedNotificationPduFollows),
+            4 => Ok(PeerDownReason::RemoteSystemsClosedNoData),
+            5 => Ok(PeerDownReason::PeerDeConfigured),
+            6 => Ok(PeerDownReason::LocalSystemClosedTlvDataFollows),
+            _ => Err(wire::refusal_at(wire::UNKNOWN_KIND, 0)),
         }
     }
 }
 
-fn good(kind: u8, rest: usize) -> PeerDownAnswer
-    requires { (kind ≤ 6) × (rest ≤ Number.limit) }
-    ensures { result ≡ good_of kind rest }
+// Reads the reason and, by it, the data behind it: the notification and the place after it.
+pub fn parse_peer_down_notification(s: &[u8]) -> Result<(PeerDownNotification, usize), Refusal>
+    ensures { result ≡ read_peer_down s.now }
 {
-    let reason = reason_of(kind);
-    if reason.has_data(rest) {
-        let data = View {
-            place: 1,
-            length: rest,
-        };
-        let notification = PeerDownNotification {
-            reason: reason,
-            data: PeerDownData::Present(data),
-        };
-        return PeerDownAnswer::Good(notification, 1 + rest);
+    if wire::LIMIT < s.len() {
+        return Err(wire::refusal_at(wire::TOO_LONG, 0));
     }
-    let notification = PeerDownNotification {
-        reason: reason,
-        data: PeerDownData::Absent,
-    };
-    PeerDownAnswer::Good(notification, 1)
-}
-
-fn reason_of(kind: u8) -> PeerDownReason
-    ensures { result ≡ reason_of kind }
-{
-    match kind {
-        0 => PeerDownReason::Reserved,
-        1 => PeerDownReason::LocalSystemClosedNotificationPduFollows,
-        2 => PeerDownReason::LocalSystemClosedFsmEvenFollows,
-        3 => PeerDownReason::RemoteSystemClosedNotificationPduFollows,
-        4 => PeerDownReason::RemoteSystemsClosedNoData,
-        5 => PeerDownReason::PeerDeConfigured,
-        _ => PeerDownReason::LocalSystemClosedTlvDataFollows,
+    let start = Cursor { at: 0 };
+    let (kind, _) = start.read::<u8>(s)?;
+    let reason = PeerDownReason::try_from(kind)?;
+    let length = wire::left(s, 1);
+    if !reason.has_data(length) {
+        return Ok((PeerDownNotification { reason, data: None }, 1));
     }
+    let data = Some(View { place: 1, length });
+    Ok((PeerDownNotification { reason, data }, 1 + length))
 }

@@ -17,11 +17,9 @@ use Rattle.layout.proofs.Promises.{first_lacking}
 use Rattle.models.specs.declared.Afi.{Afi}
 use Rattle.per_peer_type.specs.declared.BmpPeerType.{BmpPeerType}
 use Rattle.peer_up_notification.specs.Grammar.{widths}
-use Rattle.peer_up_notification.specs.Shown.{sent_at}
-use Rattle.peer_up_notification.specs.Read.{open_at, front_of, step, widths_in, kit, with_tlvs, with_received, with_sent, read_peer_up}
+use Rattle.peer_up_notification.specs.Shown.{sent_at, ReadPeerUp, refusal_of}
+use Rattle.peer_up_notification.specs.Read.{Open, open_at, front_of, step, widths_in, kit, with_tlvs, with_received, with_sent, read_peer_up}
 use Rattle.peer_up_notification.specs.Cuts.{end_at, CutIn, in_front, in_sent, in_received, in_tlv}
-use Rattle.peer_up_notification.specs.declared.Open.{Open}
-use Rattle.peer_up_notification.specs.declared.PeerUpAnswer.{PeerUpAnswer}
 use Rattle.peer_up_notification.proofs.Laws.{laws}
 
 cuts : (s : List ℕ) → CutsIn (widths_in s) (length s) (step s)
@@ -34,14 +32,14 @@ cuts s =
     (λ h. tt))
 
 module _ (afi : Afi) (peer : BmpPeerType) (s : List ℕ) (p : Bytes s) where
-  abbrev Cuts : PeerUpAnswer → Type 0
-  Cuts a = a.refusal.number ≡ Number.Cut → CutIn s a.refusal
+  abbrev Cuts : ReadPeerUp → Type 0
+  Cuts a = (refusal_of a).number ≡ Number.Cut → CutIn s (refusal_of a)
 
   in_tlvs : (sent received : View) (at : ℕ) → sent_at + 19 ≤ length s → end_at s sent_at + 19 ≤ length s → at ≡ end_at s (end_at s sent_at) → at ≤ length s
       → Cuts (with_tlvs peer (front_of afi s sent received) (read_from kit (length s) at s))
   in_tlvs sent received at one two here inside e =
       in_tlv at one two here inside
-      (walk_cut kit laws widths_in (λ z. cuts_in (widths_in z) (length z) (step z) (cuts z)) (λ (a : PeerUpAnswer). a.refusal)
+      (walk_cut kit laws widths_in (λ z. cuts_in (widths_in z) (length z) (step z) (cuts z)) refusal_of
       (with_tlvs peer (front_of afi s sent received)) (λ n at table z. refl) (λ r. refl) (length s) at s p inside e)
 
   after_sent : (sent : View) (at : ℕ) → sent_at + 19 ≤ length s → at ≡ end_at s sent_at → at ≤ length s → Cuts (with_received afi peer s sent (open_at s at))

@@ -3,6 +3,7 @@ pub mod Names
 pub mod Steps
 pub mod Laws
 pub mod Opens
+pub mod Walks
 pub mod Shows
 pub mod Sound
 pub mod Told

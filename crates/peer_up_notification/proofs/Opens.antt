@@ -9,14 +9,16 @@ use lib.Dec.{ltb}
 use lib.ListN.{length, take, drop, length-append, length-drop, take-append-drop}
 use lib.Seq.{take_at, drop_at, drop-drop}
 use Rattle.wire.specs.Number as Number
-use Rattle.wire.specs.Bytes.{pick, be, value, num_at, Bytes}
-use Rattle.wire.specs.Refusal.{refusal, cut_at}
+use Rattle.wire.specs.Bytes.{pick, be, value, num_at, number_at, Bytes}
+use Rattle.wire.specs.Refusal.{refusal, cut_at, need_at}
 use Rattle.cursor.specs.Read.{cursor}
 use Rattle.wire.specs.View.{view, viewed}
 use Rattle.wire.specs.declared.Refusal.{Refusal}
+use Rattle.std.specs.declared.result.Result.TheVariants.{Ok, Err}
 use Rattle.cursor.specs.declared.Cursor.{Cursor}
 use Rattle.wire.specs.declared.View.{View}
-use Rattle.wire.proofs.Bytes.{bytes_append, bytes_be, bytes_take, bytes_drop, value_be, num_lt, num_back, part_back, num_drop, num_part}
+use Rattle.wire.proofs.Bytes.{bytes_append, bytes_be, bytes_take, bytes_drop, value_be, num_lt, number_is, num_back, part_back, num_drop, num_part}
+use Rattle.wire.proofs.Needs.{was_met, was_cut}
 use Rattle.wire.proofs.Views.{length_part, viewed_part, octets_part}
 use Rattle.layout.specs.Layout.{cut_in}
 use Rattle.models.specs.declared.Afi.{Afi}
@@ -24,10 +26,7 @@ use Rattle.per_peer_type.specs.declared.BmpPeerType.{BmpPeerType}
 use Rattle.peer_up_notification.specs.Grammar.{widths, Message, message_bytes, GoodMessage}
 use Rattle.peer_up_notification.specs.Shown.{sent_at, refused_answer}
 use Rattle.peer_up_notification.specs.Told.{open_of}
-use Rattle.peer_up_notification.specs.Read.{open_at, behind_sent, both_opens, opens_of, with_received, with_sent, with_opens, read_peer_up}
-use Rattle.peer_up_notification.specs.declared.BothOpens.{BothOpens}
-use Rattle.peer_up_notification.specs.declared.Open.{Open}
-use Rattle.peer_up_notification.specs.declared.Open.TheVariants.{Broken, Found}
+use Rattle.peer_up_notification.specs.Read.{Open, BothOpens, open_at, behind_sent, both_opens, opens_of, with_received, with_sent, with_opens, read_peer_up}
 
 -- ---- a good message
 module _ (m : Message) (g : GoodMessage m) where
@@ -90,24 +89,47 @@ one_message m g =
       size_is = ap (λ (k : Message). k.size) (open_join m g) ∙ sym n;
     }
 
--- ---- each answer of `open_at`
-module _ (s : List ℕ) (at : ℕ) where
-  pub brief_at : length s - at < 19 → open_at s at ≡ Broken (cut_at (length s) at 19)
-  unfolding open_at
-  brief_at h = rw (lt-ltb (length s - at) 19 h)
+-- ---- a message that is all there
+pub whole_at : (s : List ℕ) (at : ℕ) → 19 ≤ length s - at → (size : ℕ) → num_at 2 s (at + 16) ≡ size → 19 ≤ size → size ≤ length s - at
+    → open_at s at ≡ Ok (view at size, cursor (at + size))
+unfolding open_at
+whole_at s at long size size_is h l = rw (le-ltb (length s - at) 19 long, size_is, le-ltb size 19 h, le-ltb (length s - at) size l)
 
-  module _ (long : 19 ≤ length s - at) (size : ℕ) (size_is : num_at 2 s (at + 16) ≡ size) where
-    pub small_at : size < 19 → open_at s at ≡ Broken (refusal Number.BgpLength (at + 16))
+-- ---- each answer of `open_at`, by what it needed and the length that it read
+module _ (s : List ℕ) (at : ℕ) where
+  pub brief_at : (r : Refusal) → need_at (length s) at 19 ≡ Err r → ◌≡◌ {A = Open} (Err r) (open_at s at)
+  unfolding open_at
+  brief_at r e =
+      let lacked = was_cut (length s) at 19 e refl in
+      rw (lt-ltb (length s - at) 19 lacked.few) (ap Err lacked.cut_is)
+
+  module _ (u : Unit {0}) (e : need_at (length s) at 19 ≡ Ok u) where
+    long : 19 ≤ length s - at
+    long = was_met (length s) at 19 e refl
+
+    abbrev size : ℕ
+    size = number_at 2 s (at + 16)
+
+    size_is : num_at 2 s (at + 16) ≡ size
+    size_is = let l = long in sym (number_is 2 s (at + 16) (omega arith))
+
+    pub small_at : number_at 2 s (at + 16) < 19 → ◌≡◌ {A = Open} (Err (refusal Number.BgpLength (at + 16))) (open_at s at)
     unfolding open_at
     small_at h = rw (le-ltb (length s - at) 19 long, size_is, lt-ltb size 19 h)
 
-    pub cut-at : 19 ≤ size → length s - at < size → open_at s at ≡ Broken (cut_at (length s) at size)
+    pub cut-at : 19 ≤ number_at 2 s (at + 16) → (r : Refusal) → need_at (length s) at (number_at 2 s (at + 16)) ≡ Err r
+        → ◌≡◌ {A = Open} (Err r) (open_at s at)
     unfolding open_at
-    cut-at h l = rw (le-ltb (length s - at) 19 long, size_is, le-ltb size 19 h, lt-ltb (length s - at) size l)
+    cut-at h r q =
+        let lacked = was_cut (length s) at size q refl in
+        rw (le-ltb (length s - at) 19 long, size_is, le-ltb size 19 h, lt-ltb (length s - at) size lacked.few) (ap Err lacked.cut_is)
 
-    pub whole_at : 19 ≤ size → size ≤ length s - at → open_at s at ≡ Found (view at size) (cursor (at + size))
-    unfolding open_at
-    whole_at h l = rw (le-ltb (length s - at) 19 long, size_is, le-ltb size 19 h, le-ltb (length s - at) size l)
+    pub found_at : 19 ≤ number_at 2 s (at + 16) → (v : Unit {0}) → need_at (length s) at (number_at 2 s (at + 16)) ≡ Ok v
+        → ◌≡◌ {A = Open} (Ok (view at (number_at 2 s (at + 16)), cursor (at + number_at 2 s (at + 16)))) (open_at s at)
+    found_at h v q = sym (whole_at s at long size size_is h (was_met (length s) at size q refl))
+
+-- those that it finds by itself
+pub ruleset answers = (brief_at, small_at, cut-at, found_at)
 
 -- ---- and the other way: a message was found at a place, and c stands behind it
 pub record WasFound (s : List ℕ) (at : ℕ) (v : View) (c : Cursor) : Type 0 where
@@ -118,8 +140,8 @@ pub record WasFound (s : List ℕ) (at : ℕ) (v : View) (c : Cursor) : Type 0 w
   pub next_is : c.at ≡ at + v.length
 
 abbrev Judged : List ℕ → ℕ → Open → Type 0
-Judged s at (Broken r) = 0 < r.number
-Judged s at (Found v c) = WasFound s at v c
+Judged s at (Err r) = 0 < r.number
+Judged s at (Ok x) = WasFound s at x.0 x.1
 
 judged : (s : List ℕ) (at : ℕ) → Judged s at (open_at s at)
 unfolding open_at
@@ -129,18 +151,18 @@ judged s at = go (ltb (length s - at) 19) (ltb size 19) refl (ltb (length s - at
     size = num_at 2 s (at + 16)
 
     go : (a b : Bool) → ltb size 19 ≡ b → (d : Bool) → ltb (length s - at) size ≡ d
-        → Judged s at (pick a (Broken (cut_at (length s) at 19)) (pick b (Broken (refusal Number.BgpLength (at + 16)))
-        (pick d (Broken (cut_at (length s) at size)) (Found (view at size) (cursor (at + size))))))
+        → Judged s at (pick a (Err (cut_at (length s) at 19)) (pick b (Err (refusal Number.BgpLength (at + 16)))
+        (pick d (Err (cut_at (length s) at size)) (Ok (view at size, cursor (at + size))))))
     go true b hb d hd = omega arith
     go false true hb d hd = omega arith
     go false false hb true hd = omega arith
     go false false hb false hd =
         record { has-header = ltb-false _ _ hb; there = ltb-false _ _ hd; size_is = refl; place_is = refl; next_is = refl }
 
-pub was_found : (s : List ℕ) (at : ℕ) (v : View) (c : Cursor) → open_at s at ≡ Found v c → WasFound s at v c
+pub was_found : (s : List ℕ) (at : ℕ) (v : View) (c : Cursor) → open_at s at ≡ Ok (v, c) → WasFound s at v c
 was_found s at v c e = subst (Judged s at) e (judged s at)
 
-pub broken_number : (s : List ℕ) (at : ℕ) (r : Refusal) → open_at s at ≡ Broken r → 0 < r.number
+pub broken_number : (s : List ℕ) (at : ℕ) (r : Refusal) → open_at s at ≡ Err r → 0 < r.number
 broken_number s at r e = subst (Judged s at) e (judged s at)
 
 -- the bytes of a message that was found
@@ -163,7 +185,7 @@ message_back {s} p at v c w t e =
 
 -- ---- a good message at a place of s, and r behind it
 pub record MessageAt (s : List ℕ) (at : ℕ) (m : Message) (r : List ℕ) : Type 0 where
-  pub found_is : open_at s at ≡ Found (view at m.size) (cursor (at + m.size))
+  pub found_is : open_at s at ≡ Ok (view at m.size, cursor (at + m.size))
   pub viewed_is : viewed s (view at m.size) ≡ message_bytes m
   pub behind_is : drop (at + m.size) s ≡ r
 
@@ -197,33 +219,21 @@ pub opens_then : (afi : Afi) (peer : BmpPeerType) (s : List ℕ) → read_peer_u
 opens_then afi peer s = go (ltb Number.limit (length s)) (ltb (length s) sent_at) (open_at s sent_at)
   where
     received : (v : View) (o : Open) → with_received afi peer s v o ≡ with_opens afi peer s (behind_sent v o)
-    received v (Broken r) = refl
-    received v (Found w c) = refl
+    received v (Err r) = refl
+    received v (Ok x) = refl
 
     go : (a b : Bool) (o : Open)
         → pick a (refused_answer (refusal Number.TooLong 0)) (pick b (refused_answer (cut_in widths 0 (length s))) (with_sent afi peer s o))
-        ≡ with_opens afi peer s (pick a (BothOpens.Refused (refusal Number.TooLong 0)) (pick b (BothOpens.Refused (cut_in widths 0 (length s))) (both_opens s o)))
+        ≡ with_opens afi peer s (pick a (Err (refusal Number.TooLong 0)) (pick b (Err (cut_in widths 0 (length s))) (both_opens s o)))
     go true b o = refl
     go false true o = refl
-    go false false (Broken r) = refl
-    go false false (Found v c) = received v (open_at s c.at)
+    go false false (Err r) = refl
+    go false false (Ok x) = received x.0 (open_at s x.1.at)
 
--- where both are found, what is behind them starts inside an input that is not too long
-pub opens_inside : (s : List ℕ) (v w : View) (at : ℕ) → opens_of s ≡ BothOpens.Found v w at → (at ≤ length s) × (length s ≤ Number.limit)
-opens_inside s v w at e = go (ltb Number.limit (length s)) refl (ltb (length s) sent_at) (open_at s sent_at) e
+-- where both are found, the input is not too long
+pub opens_short : (s : List ℕ) (v w : View) (at : ℕ) → opens_of s ≡ Ok (v, w, at) → length s ≤ Number.limit
+opens_short s v w at e = go (ltb Number.limit (length s)) refl (pick (ltb (length s) sent_at) (Err (cut_in widths 0 (length s))) (both_opens s (open_at s sent_at))) e
   where
-    received : length s ≤ Number.limit → (from : ℕ) (u : View) (o : Open) → open_at s from ≡ o → behind_sent u o ≡ BothOpens.Found v w at
-        → (at ≤ length s) × (length s ≤ Number.limit)
-    received short from u (Broken r) h q = let z : ◌≡◌ {A = ℕ} 0 1 = cc in absurd (omega arith)
-    received short from u (Found x c) h q =
-        let f = was_found s from x c h in
-        let place_is : c.at ≡ at = cc in
-        (omega (arith, f.has-header, f.there, f.next_is), short)
-
-    go : (a : Bool) → ltb Number.limit (length s) ≡ a → (b : Bool) (o : Open)
-        → pick a (BothOpens.Refused (refusal Number.TooLong 0)) (pick b (BothOpens.Refused (cut_in widths 0 (length s))) (both_opens s o)) ≡ BothOpens.Found v w at
-        → (at ≤ length s) × (length s ≤ Number.limit)
-    go true ha b o q = let z : ◌≡◌ {A = ℕ} 0 1 = cc in absurd (omega arith)
-    go false ha true o q = let z : ◌≡◌ {A = ℕ} 0 1 = cc in absurd (omega arith)
-    go false ha false (Broken r) q = let z : ◌≡◌ {A = ℕ} 0 1 = cc in absurd (omega arith)
-    go false ha false (Found u c) q = received (ltb-false _ _ ha) c.at u (open_at s c.at) refl q
+    go : (a : Bool) → ltb Number.limit (length s) ≡ a → (o : BothOpens) → pick a (Err (refusal Number.TooLong 0)) o ≡ Ok (v, w, at) → length s ≤ Number.limit
+    go true h o q = absurd cc
+    go false h o q = ltb-false _ _ h

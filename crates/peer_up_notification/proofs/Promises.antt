@@ -22,9 +22,8 @@ use Rattle.per_peer_type.specs.Peer.{kind_of, is_loc_rib}
 use Rattle.per_peer_type.specs.declared.BmpPeerType.{BmpPeerType}
 use Rattle.peer_up_notification.specs.Grammar.{Reading, join, Good, grammar, places, front_parts, join_messages, widths, skipped_for, address_for}
 use Rattle.peer_up_notification.specs.Warnings.{head_of, some, bad_table_name, no_table_name, warnings}
-use Rattle.peer_up_notification.specs.Shown.{kind_of as number_of, names, type_of, info_of, shown, refused_answer, tlvs_at}
+use Rattle.peer_up_notification.specs.Shown.{kind_of as number_of, names, type_of, info_of, shown, ReadPeerUp, refused_answer, refusal_of, tlvs_at}
 use Rattle.peer_up_notification.specs.Read.{read_peer_up, reader}
-use Rattle.peer_up_notification.specs.declared.PeerUpAnswer.{PeerUpAnswer}
 use Rattle.peer_up_notification.specs.declared.PeerUpNotificationTlv.{PeerUpNotificationTlv}
 use Rattle.peer_up_notification.specs.declared.PeerUpTlvType.{PeerUpTlvType}
 use Rattle.peer_up_notification.specs.declared.PeerUpTlvType.TheVariants.{Unknown}
@@ -104,8 +103,8 @@ warnings_counted peer r = go (is_loc_rib (kind_of peer)) (some bad_table_name (m
     go true false false = refl
 
 -- A Cut is at the first part that is not whole, in the front, in one of the messages, or in a TLV, with as many missing as it lacks.
-pub refuses_cut : (afi : Afi) (peer : BmpPeerType) (s : List ℕ) → Bytes s → (read_peer_up afi peer s).refusal.number ≡ Number.Cut
-    → CutIn s (read_peer_up afi peer s).refusal
+pub refuses_cut : (afi : Afi) (peer : BmpPeerType) (s : List ℕ) → Bytes s → (refusal_of (read_peer_up afi peer s)).number ≡ Number.Cut
+    → CutIn s (refusal_of (read_peer_up afi peer s))
 refuses_cut = Cuts.refuses_cut
 
 field_width : (afi : Afi) → skipped_for afi + address_for afi ≡ 16
@@ -134,5 +133,5 @@ pub info_value_determined : (t : PeerUpNotificationTlv) (r q : View) → r ≡ i
 info_value_determined t r q = determined
 
 -- Two answers of the reader to the same family, type of peer and bytes are equal.
-pub parse_determined : (afi : Afi) (peer : BmpPeerType) (s : List ℕ) (a b : PeerUpAnswer) → a ≡ read_peer_up afi peer s → b ≡ read_peer_up afi peer s → a ≡ b
+pub parse_determined : (afi : Afi) (peer : BmpPeerType) (s : List ℕ) (a b : ReadPeerUp) → a ≡ read_peer_up afi peer s → b ≡ read_peer_up afi peer s → a ≡ b
 parse_determined afi peer s a b = determined

@@ -22,9 +22,8 @@ use Rattle.layout.proofs.Cuts.{cut_one_of}
 use Rattle.models.specs.declared.Afi.{Afi}
 use Rattle.per_peer_type.specs.declared.BmpPeerType.{BmpPeerType}
 use Rattle.peer_up_notification.specs.Grammar.{widths, Reading, join, Good, places}
-use Rattle.peer_up_notification.specs.Shown.{refused_answer, sent_at, received_at, tlvs_at}
+use Rattle.peer_up_notification.specs.Shown.{ReadPeerUp, refused_answer, sent_at, received_at, tlvs_at}
 use Rattle.peer_up_notification.specs.Read.{open_at, front_of, step, kit, with_tlvs, with_received, with_sent, read_peer_up, numbers, reader}
-use Rattle.peer_up_notification.specs.declared.PeerUpAnswer.{PeerUpAnswer}
 use Rattle.peer_up_notification.proofs.Laws.{laws, tails}
 use Rattle.peer_up_notification.proofs.Shows.{long_enough, sent-at, received-at}
 
@@ -35,7 +34,7 @@ faults s =
     pick_in P (ltb (length s) 4) tt (pick_in P (ltb (length s - 4) (num_at 2 s 2)) (one_of numbers Number.Cut refl) tt)
 
 module _ (afi : Afi) (peer : BmpPeerType) where
-  abbrev Fine : PeerUpAnswer → Type 0
+  abbrev Fine : ReadPeerUp → Type 0
   Fine = Answered (reader afi peer)
 
   received_answered : (s : List ℕ) (sent : View) (at : ℕ) → Fine (with_received afi peer s sent (open_at s at))

@@ -21,9 +21,8 @@ use Rattle.models.specs.declared.Afi.TheVariants.{Ipv4, Ipv6}
 use Rattle.per_peer_type.specs.declared.BmpPeerType.{BmpPeerType}
 use Rattle.peer_up_notification.specs.Grammar.{message_bytes, join_tlvs, join, skipped_for, address_for, Reading, Good, Fits}
 use Rattle.peer_up_notification.specs.Warnings.{Head, warnings_of}
-use Rattle.peer_up_notification.specs.Shown.{entry, info_of, sent_at, received_at, tlvs_at, shown_address, shown_front, good_answer, shown}
+use Rattle.peer_up_notification.specs.Shown.{entry, info_of, sent_at, received_at, tlvs_at, shown_address, shown_front, ReadPeerUp, good_answer, stop_of, message_in, shown}
 use Rattle.peer_up_notification.specs.Read.{front_of, kit, with_tlvs, with_received, with_sent, read_peer_up}
-use Rattle.peer_up_notification.specs.declared.PeerUpAnswer.{PeerUpAnswer}
 use Rattle.peer_up_notification.proofs.Address.{address_shown}
 use Rattle.peer_up_notification.proofs.Names.{heads_shown}
 use Rattle.peer_up_notification.proofs.Laws.{laws, tails}
@@ -105,7 +104,7 @@ module _ (afi : Afi) (r : Reading) (g : Good afi r) where
   shown_tlvs peer few =
       let a = read_complete kit laws tails (tlvs_at r) (join r) r.tlvs r.tail g.each g.tail_good (sym received-at.behind_is) few in
       ap (with_tlvs peer (shown_front afi r)) a.shown_so
-      ∙ ap (λ (l : List Head). good_answer (shown afi peer r).stop (warnings_of peer l) (shown afi peer r).message) (heads_shown (tlvs_at r) r.tlvs _)
+      ∙ ap (λ (l : List Head). good_answer (stop_of (shown afi peer r)) (warnings_of peer l) (message_in (shown afi peer r))) (heads_shown (tlvs_at r) r.tlvs _)
 
   pub shown_all : (peer : BmpPeerType) → Fits r → length (join r) ≤ Number.limit → read_peer_up afi peer (join r) ≡ shown afi peer r
   shown_all peer few short =
@@ -120,9 +119,9 @@ abbrev pub ViewAt : List ℕ → ℕ → Tlv → Type 0
 ViewAt s at t = viewed s (info_of (entry at t)) ≡ t.value
 
 -- the views of an answer to s show the parts of r
-pub record ShowsParts (s : List ℕ) (a : PeerUpAnswer) (r : Reading) : Type 0 where
-  pub sent_shown : viewed s a.message.sent_open ≡ message_bytes r.sent_open
-  pub received_shown : viewed s a.message.received_open ≡ message_bytes r.received_open
+pub record ShowsParts (s : List ℕ) (a : ReadPeerUp) (r : Reading) : Type 0 where
+  pub sent_shown : viewed s (message_in a).sent_open ≡ message_bytes r.sent_open
+  pub received_shown : viewed s (message_in a).received_open ≡ message_bytes r.received_open
   pub tlvs_shown : AllAt size_of (ViewAt s) (tlvs_at r) r.tlvs
 
 pub shows_parts : (afi : Afi) (peer : BmpPeerType) (r : Reading) → Good afi r → ShowsParts (join r) (shown afi peer r) r

@@ -16,6 +16,7 @@ use Rattle.wire.specs.Tlv.{Tlv, put_tlv}
 use Rattle.wire.specs.Walk.{Out, good, refused, read_from}
 use Rattle.wire.proofs.Views.{octets_part}
 use Rattle.cursor.specs.declared.Cursor.{Cursor}
+use Rattle.std.specs.declared.result.Result.TheVariants.{Ok, Err}
 use Rattle.wire.specs.declared.View.{View}
 use Rattle.wire.proofs.Bytes.{length_be, be_injective, num_lt, num_back, bytes_take, bytes_drop}
 use Rattle.wire.proofs.Walk.{read_sound, read_fault}
@@ -25,12 +26,10 @@ use Rattle.layout.proofs.Cuts.{cut_number}
 use Rattle.models.specs.declared.Afi.{Afi}
 use Rattle.per_peer_type.specs.declared.BmpPeerType.{BmpPeerType}
 use Rattle.peer_up_notification.specs.Grammar.{widths, join, skipped_for, Reading, Good, Fits}
-use Rattle.peer_up_notification.specs.Shown.{sent_at, refused_answer}
+use Rattle.peer_up_notification.specs.Shown.{sent_at, refused_answer, refusal_of}
 use Rattle.peer_up_notification.specs.Told.{open_of}
-use Rattle.peer_up_notification.specs.Read.{open_at, front_of, kit, with_tlvs, with_received, with_sent, read_peer_up}
+use Rattle.peer_up_notification.specs.Read.{Open, open_at, front_of, kit, with_tlvs, with_received, with_sent, read_peer_up}
 use Rattle.peer_up_notification.specs.declared.PeerUpNotificationTlv.{PeerUpNotificationTlv}
-use Rattle.peer_up_notification.specs.declared.Open.{Open}
-use Rattle.peer_up_notification.specs.declared.Open.TheVariants.{Broken, Found}
 use Rattle.peer_up_notification.proofs.Laws.{faults, laws, tails}
 use Rattle.peer_up_notification.proofs.Opens.{WasFound, was_found, broken_number, found_one, open_good, message_back, split_same, same_message}
 use Rattle.peer_up_notification.proofs.Shows.{address-field}
@@ -51,12 +50,12 @@ pub record Accepted (s : List ℕ) : Type 0 where
   pub left : List ℕ
   pub walked : read_from kit (length s) after_received.at s ≡ good count end table left
 
-pub accepted : (afi : Afi) (peer : BmpPeerType) (s : List ℕ) → (read_peer_up afi peer s).refusal.number ≡ Number.Good → Accepted s
+pub accepted : (afi : Afi) (peer : BmpPeerType) (s : List ℕ) → (refusal_of (read_peer_up afi peer s)).number ≡ Number.Good → Accepted s
 accepted afi peer s e = go (ltb Number.limit (length s)) refl (ltb (length s) sent_at) refl (open_at s sent_at) refl e
   where
-    walks : (v w : View) (c d : Cursor) → length s ≤ Number.limit → 20 ≤ length s → open_at s sent_at ≡ Found v c → open_at s c.at ≡ Found w d
+    walks : (v w : View) (c d : Cursor) → length s ≤ Number.limit → 20 ≤ length s → open_at s sent_at ≡ Ok (v, c) → open_at s c.at ≡ Ok (w, d)
         → (o : Out PeerUpNotificationTlv) → read_from kit (length s) d.at s ≡ o
-        → (with_tlvs peer (front_of afi s v w) o).refusal.number ≡ Number.Good → Accepted s
+        → (refusal_of (with_tlvs peer (front_of afi s v w) o)).number ≡ Number.Good → Accepted s
     walks v w c d short long hv hw (refused r) k q =
         let f = read_fault kit faults (length s) d.at s r k in absurd (omega (arith, f, q))
     walks v w c d short long hv hw (good n at table z) k q =
@@ -76,20 +75,20 @@ accepted afi peer s e = go (ltb Number.limit (length s)) refl (ltb (length s) se
           walked = k;
         }
 
-    receives : (v : View) (c : Cursor) → length s ≤ Number.limit → 20 ≤ length s → open_at s sent_at ≡ Found v c
-        → (o : Open) → open_at s c.at ≡ o → (with_received afi peer s v o).refusal.number ≡ Number.Good → Accepted s
-    receives v c short long hv (Broken r) k q = let f = broken_number s c.at r k in absurd (omega (arith, f, q))
-    receives v c short long hv (Found w d) k q = walks v w c d short long hv k (read_from kit (length s) d.at s) refl q
+    receives : (v : View) (c : Cursor) → length s ≤ Number.limit → 20 ≤ length s → open_at s sent_at ≡ Ok (v, c)
+        → (o : Open) → open_at s c.at ≡ o → (refusal_of (with_received afi peer s v o)).number ≡ Number.Good → Accepted s
+    receives v c short long hv (Err r) k q = let f = broken_number s c.at r k in absurd (omega (arith, f, q))
+    receives v c short long hv (Ok x) k q = walks v x.0 c x.1 short long hv k (read_from kit (length s) x.1.at s) refl q
 
     go : (a : Bool) → ltb Number.limit (length s) ≡ a → (b : Bool) → ltb (length s) sent_at ≡ b → (o : Open) → open_at s sent_at ≡ o
-        → (pick a (refused_answer (refusal Number.TooLong 0)) (pick b (refused_answer (cut_in widths 0 (length s))) (with_sent afi peer s o))).refusal.number ≡ Number.Good
+        → (refusal_of (pick a (refused_answer (refusal Number.TooLong 0)) (pick b (refused_answer (cut_in widths 0 (length s))) (with_sent afi peer s o)))).number ≡ Number.Good
         → Accepted s
     go true ha b hb o ho q = absurd (omega (arith, q))
     go false ha true hb o ho q =
         absurd (omega (arith, cut_number widths 0 (length s) (omega arith) (ltb-true (length s) sent_at hb), q))
-    go false ha false hb (Broken r) ho q = let f = broken_number s sent_at r ho in absurd (omega (arith, f, q))
-    go false ha false hb (Found v c) ho q =
-        receives v c (ltb-false _ _ ha) (ltb-false (length s) sent_at hb) ho (open_at s c.at) refl q
+    go false ha false hb (Err r) ho q = let f = broken_number s sent_at r ho in absurd (omega (arith, f, q))
+    go false ha false hb (Ok x) ho q =
+        receives x.0 x.1 (ltb-false _ _ ha) (ltb-false (length s) sent_at hb) ho (open_at s x.1.at) refl q
 
 -- ---- its reading
 module _ (afi : Afi) (s : List ℕ) (p : Bytes s) (a : Accepted s) where

@@ -1,4 +1,4 @@
--- One step of the walk by its cases; what `step_at` answers in each, and what its answer says of the step. Assumes nothing.
+-- One step of the walk by its cases; what it says of the bytes, and what `step_at` answers in each. Assumes nothing.
 use mathlib.Core.Path.{◌≡◌, refl, sym, ap, ◌∙◌, subst}
 use mathlib.Core.List.{List}
 use mathlib.Core.Bool.{Bool, true, false}
@@ -8,18 +8,23 @@ use borrow.Author.Tests.{lt-ltb, le-ltb, ltb-true, ltb-false}
 use lib.Dec.{ltb}
 use lib.ListN.{length, drop, length-drop}
 use Rattle.wire.specs.Bytes.{pick, num_at}
-use Rattle.wire.specs.Refusal.{cut_at}
+use Rattle.wire.specs.Refusal.{cut_at, need_at}
 use Rattle.cursor.specs.Read.{cursor}
 use Rattle.wire.specs.Tlv.{Tlv, size_of}
 use Rattle.wire.specs.TlvAt.{tlv_of}
 use Rattle.wire.specs.Walk as Walk
 use Rattle.wire.specs.Walk.{stop, bad, item, from}
 use Rattle.wire.specs.declared.Refusal.{Refusal}
-use Rattle.wire.proofs.Needs.{cut_from}
-use Rattle.cursor.specs.declared.Cursor.{Cursor}
+use Rattle.std.specs.declared.result.Result.TheVariants.{Ok, Err}
+use Rattle.std.specs.declared.option.Option.TheVariants.{Some, None}
+use Rattle.tlv_head.specs.Head.{head_at}
+use Rattle.tlv_head.specs.declared.TlvHead.{TlvHead}
+use Rattle.tlv_head.proofs.Heads.{Head, was_found, was_short}
+use Rattle.wire.proofs.Needs.{was_met, was_cut, cut_from}
 use Rattle.peer_up_notification.specs.Shown.{shown_tlv, entry}
-use Rattle.peer_up_notification.specs.Read.{step, as_step, step_at}
-use Rattle.peer_up_notification.specs.declared.Step.TheVariants.{Stop, Bad, Whole}
+use Rattle.peer_up_notification.specs.Read.{step, stop_at, Stepped, step_at}
+use Rattle.walk.specs.Walk.{step_of}
+use Rattle.walk.specs.declared.Step.TheVariants.{Stop, Whole}
 
 pub data Seen (s : List ℕ) : Walk.Step Tlv → Type 0 where
   none : length s ≤ 3 → Seen s stop
@@ -56,58 +61,48 @@ pub record Found (s : List ℕ) (t : Tlv) : Type 0 where
   pub there : num_at 2 s 2 ≤ length s - 4
 
 pub found : (s : List ℕ) (t : Tlv) {x : Walk.Step Tlv} → Seen s x → x ≡ item t → Found s t
-found s t (none h) q = let z : ◌≡◌ {A = ℕ} 0 1 = cc in absurd (omega arith)
-found s t cut q = let z : ◌≡◌ {A = ℕ} 0 1 = cc in absurd (omega arith)
+found s t (none h) q = absurd cc
+found s t cut q = absurd cc
 found s t (whole h k) q = record { is = cc; long = h; there = k }
 
 pub stopped : (s : List ℕ) {x : Walk.Step Tlv} → Seen s x → x ≡ stop → length s ≤ 3
 stopped s (none h) q = h
-stopped s cut q = let z : ◌≡◌ {A = ℕ} 0 1 = cc in absurd (omega arith)
-stopped s (whole h k) q = let z : ◌≡◌ {A = ℕ} 0 1 = cc in absurd (omega arith)
+stopped s cut q = absurd cc
+stopped s (whole h k) q = absurd cc
 
 pub numbered : (s : List ℕ) (r : Refusal) {x : Walk.Step Tlv} → Seen s x → x ≡ bad r → 0 < r.number
-numbered s r (none h) q = let z : ◌≡◌ {A = ℕ} 0 1 = cc in absurd (omega arith)
+numbered s r (none h) q = absurd cc
 numbered s r cut q = let e : cut_at (length s) 4 (num_at 2 s 2) ≡ r = cc in subst (λ (j : Refusal). 0 < j.number) e (omega arith)
-numbered s r (whole h k) q = let z : ◌≡◌ {A = ℕ} 0 1 = cc in absurd (omega arith)
+numbered s r (whole h k) q = absurd cc
 
--- ---- each answer of `step_at`
+-- ---- each answer of `step_at`, by the head that was read and what it needed
 module _ (s : List ℕ) (at : ℕ) where
-  pub brief_at : length s - at < 4 → step_at s at ≡ Stop at
-  brief_at h = ap (as_step at) (none_of (drop at s) (simp length-drop (omega arith)))
+  pub brief_at : head_at 0 s at ≡ None → ◌≡◌ {A = Stepped} (Ok (Stop at)) (step_at s at)
+  brief_at e =
+      let h = was_short 0 s at refl (sym e) in
+      sym (ap (step_of entry size_of stop_at at (drop at s)) (none_of (drop at s) (simp length-drop (omega arith))))
 
-  module _ (long : 4 ≤ length s - at) (size : ℕ) (size_is : num_at 2 (drop at s) 2 ≡ size) (place : ℕ) (place_is : place ≡ at + 4) where
-    long' : 4 ≤ length (drop at s)
-    long' = simp length-drop long
+  module _ (h : TlvHead) (e : head_at 0 s at ≡ Some h) where
+    head : Head 0 s at h
+    head = was_found 0 s at e refl
 
-    pub cut-at : length s - place < size → step_at s at ≡ Bad (cut_at (length s) place size)
-    cut-at h =
-        ap (as_step at) (cut_of (drop at s) long' (rw (length-drop, size_is) (omega arith)))
-        ∙ ap Bad (ap (λ (w : ℕ). from at (cut_at (length (drop at s)) 4 w)) size_is ∙ cut_from s at 4 place size place_is)
+    long : 4 ≤ length (drop at s)
+    long = let w = head in simp length-drop (omega arith)
 
-    pub whole_at : (kind : ℕ) → num_at 2 (drop at s) 0 ≡ kind → size ≤ length s - place
-        → step_at s at ≡ Whole kind size place (cursor (place + size))
-    whole_at kind kind_is h =
-        let end_is : at + (4 + num_at 2 (drop at s) 2) ≡ place + size = omega arith in
-        ap (as_step at) (whole_of (drop at s) long' (rw (length-drop, size_is) (omega arith)))
-        ∙ (λ i. Whole (kind_is i) (size_is i) (sym place_is i) (cursor (end_is i)))
+    pub cut-at : (r : Refusal) → need_at (length s) h.value.at h.length ≡ Err r → ◌≡◌ {A = Stepped} (Err r) (step_at s at)
+    cut-at r q =
+        let w = head in
+        let lacked = was_cut (length s) h.value.at h.length q refl in
+        sym (ap (step_of entry size_of stop_at at (drop at s)) (cut_of (drop at s) long (rw (length-drop, w.size_is) (omega (arith, lacked.few))))
+        ∙ ap Err (ap (λ (k : ℕ). from at (cut_at (length (drop at s)) 4 k)) w.size_is ∙ cut_from s at 4 h.value.at h.length w.next ∙ sym lacked.cut_is))
 
--- ---- and the other way
-pub was_stop : (at p : ℕ) (x : Walk.Step Tlv) → as_step at x ≡ Stop p → (x ≡ stop) × (p ≡ at)
-was_stop at p stop q = (refl, cc)
-was_stop at p (bad r) q = (cc, cc)
-was_stop at p (item t) q = (cc, cc)
+    pub whole_at : (u : Unit {0}) → need_at (length s) h.value.at h.length ≡ Ok u
+        → ◌≡◌ {A = Stepped} (Ok (Whole (shown_tlv h.kind h.length h.value.at) (cursor (h.value.at + h.length)))) (step_at s at)
+    whole_at u q =
+        let w = head in
+        let met = was_met (length s) h.value.at h.length q refl in
+        let end_is : at + (4 + num_at 2 (drop at s) 2) ≡ h.value.at + h.length = omega arith in
+        sym (ap (step_of entry size_of stop_at at (drop at s)) (whole_of (drop at s) long (rw (length-drop, w.size_is) (omega arith)))
+        ∙ (λ i. Ok (Whole (shown_tlv (w.kind_is i) (w.size_is i) (sym w.next i)) (cursor (end_is i)))))
 
-pub was_bad : (at : ℕ) (d : Refusal) (x : Walk.Step Tlv) → as_step at x ≡ Bad d → (r : Refusal) × (x ≡ bad r) × (from at r ≡ d)
-was_bad at d stop q = (d, cc, cc)
-was_bad at d (bad r) q = (r, refl, cc)
-was_bad at d (item t) q = (d, cc, cc)
-
-pub was_whole : (at kind size place : ℕ) (c : Cursor) (x : Walk.Step Tlv) → as_step at x ≡ Whole kind size place c
-    → (t : Tlv) × (x ≡ item t) × (entry at t ≡ shown_tlv kind size place) × (at + size_of t ≡ c.at)
-was_whole at kind size place c stop q = let z : ◌≡◌ {A = ℕ} 0 1 = cc in absurd (omega arith)
-was_whole at kind size place c (bad r) q = let z : ◌≡◌ {A = ℕ} 0 1 = cc in absurd (omega arith)
-was_whole at kind size place c (item t) q =
-    let kind_is : t.kind ≡ kind = cc in
-    let size_is : t.size ≡ size = cc in
-    let place_is : at + 4 ≡ place = cc in
-    (t, refl, λ i. shown_tlv (kind_is i) (size_is i) (place_is i), cc)
+pub ruleset answers = (brief_at, cut-at, whole_at)

@@ -15,6 +15,7 @@ use Rattle.wire.specs.View.{view}
 use Rattle.wire.specs.Walk.{read_from}
 use Rattle.wire.specs.Waits.{WaitsBut, MissingTells}
 use Rattle.wire.specs.declared.Refusal.{Refusal}
+use Rattle.std.specs.declared.result.Result.TheVariants.{Ok, Err}
 use Rattle.wire.proofs.Cuts.{pick_by}
 use Rattle.wire.proofs.Waits.{Judge, by_number, part_more, cut_tells, said, said_few, ends, test, given, need, ask, look, waits_by, tells_by}
 use Rattle.wire.proofs.WalkWaits.{lacks, StepWaited, whole, step_stop, step_need, num_more, StepTells, walk_said, StepsWait, walk_on, more_bytes}
@@ -23,12 +24,9 @@ use Rattle.layout.proofs.Waits.{fields, fields_judge}
 use Rattle.models.specs.declared.Afi.{Afi}
 use Rattle.per_peer_type.specs.declared.BmpPeerType.{BmpPeerType}
 use Rattle.peer_up_notification.specs.Grammar.{widths}
-use Rattle.peer_up_notification.specs.Shown.{sent_at}
-use Rattle.peer_up_notification.specs.Read.{open_at, front_of, step, kit, with_tlvs, with_received, with_sent, read_peer_up, reader}
+use Rattle.peer_up_notification.specs.Shown.{sent_at, refusal_of}
+use Rattle.peer_up_notification.specs.Read.{Open, open_at, front_of, step, kit, with_tlvs, with_received, with_sent, read_peer_up, reader}
 use Rattle.peer_up_notification.specs.Cuts.{OpenBegun}
-use Rattle.peer_up_notification.specs.declared.Open.{Open}
-use Rattle.peer_up_notification.specs.declared.Open.TheVariants.{Broken, Found}
-use Rattle.peer_up_notification.specs.declared.PeerUpAnswer.{PeerUpAnswer}
 use Rattle.peer_up_notification.proofs.Laws.{takes}
 
 -- ---- the TLVs
@@ -65,8 +63,8 @@ module _ {Again : List ℕ → ℕ → ℕ → Type 0} (at : ℕ) (again : (s : 
       test (λ s. ltb size 19) (λ s t h. refl) (ends Number.BgpLength (at + 16) refl) (ask size (next size))))
 
   -- the refusal that g makes of what stands there, where it hands on that of a broken OPEN
-  open_said : (g : Open → Refusal) → ((r : Refusal) → g (Broken r) ≡ r) → (s : List ℕ)
-      → g (Found (view at (num_at 2 s (at + 16))) (cursor (at + num_at 2 s (at + 16)))) ≡ (next (num_at 2 s (at + 16))).judge s → g (open_at s at) ≡ open_then.judge s
+  open_said : (g : Open → Refusal) → ((r : Refusal) → g (Err r) ≡ r) → (s : List ℕ)
+      → g (Ok (view at (num_at 2 s (at + 16)), cursor (at + num_at 2 s (at + 16)))) ≡ (next (num_at 2 s (at + 16))).judge s → g (open_at s at) ≡ open_then.judge s
   unfolding open_then open_at look given test ends ask need
   open_said g broken s found =
       let size = num_at 2 s (at + 16) in
@@ -97,15 +95,14 @@ judged : Judge OpenBegun 0 0
 judged = fields widths 0 sent_at refl sent
 
 module _ (afi : Afi) (peer : BmpPeerType) where
-  reads : (s : List ℕ) → (read_peer_up afi peer s).refusal ≡ pick (ltb Number.limit (length s)) (refusal Number.TooLong 0) (judged.judge s)
+  reads : (s : List ℕ) → refusal_of (read_peer_up afi peer s) ≡ pick (ltb Number.limit (length s)) (refusal Number.TooLong 0) (judged.judge s)
   unfolding judged sent received tlvs walk_on
   reads s =
-      let refusal_of : PeerUpAnswer → Refusal = λ a. a.refusal in
       let size = num_at 2 s (sent_at + 16) in
       said refusal_of (ltb Number.limit (length s)) refl
       (said refusal_of (ltb (length s) sent_at) refl
-      (open_said sent_at sent_begun received (λ o. (with_sent afi peer s o).refusal) (λ r. refl) s
-      (open_said (sent_at + size) (received_begun size) (tlvs size) (λ o. (with_received afi peer s (view sent_at size) o).refusal) (λ r. refl) s
+      (open_said sent_at sent_begun received (λ o. refusal_of (with_sent afi peer s o)) (λ r. refl) s
+      (open_said (sent_at + size) (received_begun size) (tlvs size) (λ o. refusal_of (with_received afi peer s (view sent_at size) o)) (λ r. refl) s
       (walk_said refusal_of (with_tlvs peer (front_of afi s _ _)) (λ n at table z. refl) (λ r. refl) (read_from kit (length s) _ s))))
       ∙ sym (fields_judge 0 widths 0 sent_at refl sent s (omega arith)))
 

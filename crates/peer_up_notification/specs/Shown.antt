@@ -1,5 +1,5 @@
 -- How a reading is shown in the answer, and what a refusal shows. Nothing here takes an input apart.
-use Rattle.std.specs.Prelude.{ℕ, ◌+◌, ◌-◌, List, [], ◌∷◌, ◌++◌, length, take, replicate, get_or}
+use Rattle.std.specs.Prelude.{ℕ, ◌+◌, ◌-◌, List, [], ◌∷◌, ◌++◌, length, take, replicate, get_or, Result, Ok, Err}
 use Rattle.wire.specs.Refusal.{no_refusal}
 use Rattle.wire.specs.View.{view, no_view}
 use Rattle.wire.specs.Parts.{shown_from, end_from}
@@ -100,10 +100,25 @@ message_of f count table =
 abbrev pub kept : PeerUpNotification → List PeerUpNotificationTlv
 kept m = take m.count m.tlvs
 
-abbrev pub good_answer : ℕ → ℕ → PeerUpNotification → PeerUpAnswer
-good_answer end word message = record { refusal = no_refusal; stop = end; warnings = word; message = message }
+-- what the reader answers: the stop, the warnings and the message, or a refusal
+abbrev pub ReadPeerUp : Type 0
+ReadPeerUp = Result PeerUpAnswer Refusal
 
--- a refusal shows nothing: every number is zero, and the address is IPv4
+abbrev pub good_answer : ℕ → ℕ → PeerUpNotification → ReadPeerUp
+good_answer end word message = Ok (record { stop = end; warnings = word; message = message })
+
+abbrev pub refused_answer : Refusal → ReadPeerUp
+refused_answer r = Err r
+
+-- what an answer says: its refusal, the stop and the message. A refusal shows nothing: every number is zero, and the address is IPv4
+abbrev pub refusal_of : ReadPeerUp → Refusal
+refusal_of (Ok a) = no_refusal
+refusal_of (Err r) = r
+
+abbrev pub stop_of : ReadPeerUp → ℕ
+stop_of (Ok a) = a.stop
+stop_of (Err r) = 0
+
 abbrev pub zero_front : Front
 zero_front =
     record {
@@ -114,11 +129,12 @@ zero_front =
       received_open = no_view;
     }
 
-abbrev pub refused_answer : Refusal → PeerUpAnswer
-refused_answer r = record { refusal = r; stop = 0; warnings = 0; message = message_of zero_front 0 zero_table }
+abbrev pub message_in : ReadPeerUp → PeerUpNotification
+message_in (Ok a) = a.message
+message_in (Err r) = message_of zero_front 0 zero_table
 
 -- the good answer: the TLVs in order, entries past the count zero, the stop where the last TLV ends and the tail starts
-abbrev pub shown : Afi → BmpPeerType → Reading → PeerUpAnswer
+abbrev pub shown : Afi → BmpPeerType → Reading → ReadPeerUp
 shown afi peer r =
     good_answer (end_from size_of (tlvs_at r) r.tlvs) (warnings peer r)
     (message_of (shown_front afi r) (length r.tlvs)

@@ -7,10 +7,9 @@ use Rattle.wire.specs.Tlv.{Tlv}
 use Rattle.wire.specs.declared.View.{View}
 use Rattle.models.specs.declared.IpAddr.{IpAddr}
 use Rattle.peer_up_notification.specs.Grammar.{Message, skipped_for, Reading}
-use Rattle.peer_up_notification.specs.Shown.{info_of}
+use Rattle.peer_up_notification.specs.Shown.{info_of, ReadPeerUp, message_in}
 use Rattle.peer_up_notification.specs.declared.PeerUpNotificationTlv.{PeerUpNotificationTlv}
 use Rattle.peer_up_notification.specs.declared.PeerUpNotification.{PeerUpNotification}
-use Rattle.peer_up_notification.specs.declared.PeerUpAnswer.{PeerUpAnswer}
 
 abbrev pub told_address : IpAddr → List ℕ
 told_address ip = drop (skipped_for ip.afi) ip.octets
@@ -35,5 +34,5 @@ told_message look m skipped tail =
       tail = tail;
     }
 
-abbrev pub told : (View → List ℕ) → PeerUpAnswer → List ℕ → List ℕ → Reading
-told look a skipped tail = told_message look a.message skipped tail
+abbrev pub told : (View → List ℕ) → ReadPeerUp → List ℕ → List ℕ → Reading
+told look a skipped tail = told_message look (message_in a) skipped tail

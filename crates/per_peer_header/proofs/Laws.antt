@@ -15,7 +15,7 @@ use Rattle.wire.proofs.Bytes.{value_be, num_lt, num_back, part_back}
 use Rattle.layout.specs.Layout.{cut_in}
 use Rattle.layout.proofs.Cuts.{cut_number}
 use Rattle.per_peer_header.specs.Grammar.{widths, Reading, address_bytes, as_bytes, join, Good}
-use Rattle.per_peer_header.specs.Shown.{shown, refused}
+use Rattle.per_peer_header.specs.Shown.{shown, refused, refusal_of}
 use Rattle.per_peer_header.specs.Read.{address_field, as_field, parts_of, read_per_peer_header}
 use Rattle.per_peer_header.proofs.Fields.{there, length_address, length_as, number_of, value_as, address-bytes, as-bytes, fields_back, layout_known}
 
@@ -86,15 +86,15 @@ pub record Accepted (s : List ℕ) : Type 0 where
   pub long : 42 ≤ length s
   pub known : num_at 1 s 0 ≤ 3
 
-pub accepted : (s : List ℕ) → (read_per_peer_header s).refusal.number ≡ Number.Good → Accepted s
+pub accepted : (s : List ℕ) → (refusal_of (read_per_peer_header s)).number ≡ Number.Good → Accepted s
 accepted s e = go (ltb Number.limit (length s)) refl (ltb 3 (number_at 1 s 0)) refl (ltb (length s) 42) refl e
   where
     no : {k : ℕ} → suc k ≡ 0 → Accepted s
     no q = absurd (omega arith)
 
     go : (a : Bool) → ltb Number.limit (length s) ≡ a → (b : Bool) → ltb 3 (number_at 1 s 0) ≡ b → (c : Bool) → ltb (length s) 42 ≡ c
-        → (pick a (refused (refusal Number.TooLong 0)) (pick b (refused (refusal Number.UnknownKind 0))
-        (pick c (refused (cut_in widths 0 (length s))) (shown (parts_of s))))).refusal.number ≡ Number.Good
+        → (refusal_of (pick a (refused (refusal Number.TooLong 0)) (pick b (refused (refusal Number.UnknownKind 0))
+        (pick c (refused (cut_in widths 0 (length s))) (shown (parts_of s)))))).number ≡ Number.Good
         → Accepted s
     go true ha b hb c hc q = no q
     go false ha true hb c hc q = no q

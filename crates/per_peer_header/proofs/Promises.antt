@@ -22,10 +22,9 @@ use Rattle.per_peer_header.specs.Grammar.{widths, Reading, Skipped, address_byte
 use Rattle.models.specs.Warnings.{count_ones}
 use Rattle.models.specs.declared.IpAddr.{IpAddr}
 use Rattle.per_peer_header.specs.Warnings.{stray_address, no_router_id, warnings}
-use Rattle.per_peer_header.specs.Shown.{shown_address, shown_asn, shown_header, shown, refused}
+use Rattle.per_peer_header.specs.Shown.{PerPeerHeaderResult, shown_address, shown_asn, shown_header, shown, refused, refusal_of}
 use Rattle.per_peer_header.specs.Told.{told_header}
 use Rattle.per_peer_header.specs.Read.{address_field, as_field, parts_of, read_per_peer_header, reader}
-use Rattle.per_peer_header.specs.declared.PerPeerHeaderAnswer.{PerPeerHeaderAnswer}
 use Rattle.per_peer_header.proofs.Fields.{address-fits, as-fits, fields_layout, layout_known, length_address, length_as}
 use Rattle.per_peer_header.proofs.Laws.{length_join, parts_join, join_parts, Accepted, accepted, shows_parts}
 use Rattle.per_peer_header.proofs.Told as ToldProofs
@@ -99,8 +98,8 @@ unique r q g h e = sym (parts_join r g) ∙ ap parts_of e ∙ parts_join q h
 -- ---- what is accepted and what is refused, for every input that is not too long
 module _ (s : List ℕ) (short : length s ≤ Number.limit) where
   -- Whatever 42 bytes begin with a type of 0 to 3 are accepted.
-  pub accepts : 42 ≤ length s → num_at 1 s 0 ≤ 3 → (read_per_peer_header s).refusal ≡ no_refusal
-  accepts long known = ap (λ (a : PerPeerHeaderAnswer). a.refusal) (shows_parts s (record { short = short; long = long; known = known }))
+  pub accepts : 42 ≤ length s → num_at 1 s 0 ≤ 3 → refusal_of (read_per_peer_header s) ≡ no_refusal
+  accepts long known = ap refusal_of (shows_parts s (record { short = short; long = long; known = known }))
 
   -- A type above 3 is refused at its place, however much is missing behind it.
   pub refuses_type : 0 < length s → 3 < num_at 1 s 0 → read_per_peer_header s ≡ refused (refusal Number.UnknownKind 0)
@@ -136,7 +135,7 @@ warnings_counted r = go (stray_address r.kind (address_bytes r.address)) (no_rou
     go false false = refl
 
 -- ---- any two answers that the contracts allow are equal
-pub parse_determined : (s : List ℕ) (a b : PerPeerHeaderAnswer) → a ≡ read_per_peer_header s → b ≡ read_per_peer_header s → a ≡ b
+pub parse_determined : (s : List ℕ) (a b : PerPeerHeaderResult) → a ≡ read_per_peer_header s → b ≡ read_per_peer_header s → a ≡ b
 parse_determined s a b = determined
 
 module _ (kind flags : ℕ) where

@@ -10,7 +10,7 @@ use borrow.Author.Tests.{ne_eqb}
 use lib.ListN.{length, length-append, replicate}
 use Rattle.wire.specs.Number as Number
 use Rattle.wire.specs.Bytes.{pick, be, Bytes, Octets}
-use Rattle.wire.specs.Refusal.{no_refusal}
+use Rattle.std.specs.declared.result.Result.TheVariants.{Ok}
 use Rattle.wire.proofs.Bytes.{bytes_append}
 use Rattle.wire.proofs.Views.{octets_zeros}
 use Rattle.models.specs.Rfc.{Address, ipv4, ipv6, field_of, family_of, AddressFits}
@@ -116,7 +116,7 @@ module _ (kind flags : ℕ) (known : kind ≤ 2) where
 
 -- The header of a peer that conforms is shown as the RFC has it, with no warning.
 pub peer_shown : (p : Peer) → PeerConforms p → (tail : List ℕ) → Bytes tail → length (peer_bytes p ++ tail) ≤ Number.limit
-    → read_per_peer_header (peer_bytes p ++ tail) ≡ record { refusal = no_refusal; stop = 42; warnings = 0; header = peer_header p }
+    → read_per_peer_header (peer_bytes p ++ tail) ≡ Ok (record { stop = 42; warnings = 0; header = peer_header p })
 peer_shown p c tail tail_bytes limit =
     let kind = p.peer_type in
     let flags = flags_of p in
@@ -136,8 +136,7 @@ peer_shown p c tail tail_bytes limit =
     fields_shown kind flags p.distinguisher (field_of p.address) p.asn p.bgp_id p.seconds p.microseconds
     (omega (arith, c.type-known)) flags_fit c.distinguisher_fits (field_octets p.address c.address-fits) c.asn_fits c.id_fits
     c.seconds_fit c.microseconds_fit tail tail_bytes limit
-    ∙ (λ i. record {
-      refusal = no_refusal;
+    ∙ (λ i. Ok (record {
       stop = 42;
       warnings = unwarned i;
       header =
@@ -152,7 +151,7 @@ peer_shown p c tail tail_bytes limit =
             seconds = p.seconds;
             microseconds = p.microseconds;
           };
-    })
+    }))
 
 -- The AS shown is the four-byte number, unless the A flag is set and the number does not fit 16 bits.
 pub as_shown : (p : Peer) → (p.legacy_as_path ≡ false) ⊎ (p.asn < 2 ^ 16) → shown_as p ≡ p.asn
@@ -166,7 +165,7 @@ as_shown p (inr small) = go p.legacy_as_path
 -- ---- of a Loc-RIB
 -- The header of a Loc-RIB that conforms is shown as RFC 9069 has it, with no warning.
 pub loc_rib_shown : (l : LocRib) → LocRibConforms l → (tail : List ℕ) → Bytes tail → length (loc_rib_bytes l ++ tail) ≤ Number.limit
-    → read_per_peer_header (loc_rib_bytes l ++ tail) ≡ record { refusal = no_refusal; stop = 42; warnings = 0; header = loc_rib_header l }
+    → read_per_peer_header (loc_rib_bytes l ++ tail) ≡ Ok (record { stop = 42; warnings = 0; header = loc_rib_header l })
 unfolding type_of
 loc_rib_shown l c tail tail_bytes limit =
     let flags = bit 0x80 l.filtered in
@@ -175,4 +174,4 @@ loc_rib_shown l c tail tail_bytes limit =
     fields_shown 3 flags l.distinguisher (replicate 16 0) l.asn l.bgp_id l.seconds l.microseconds
     (omega arith) (omega (arith, bit_at_most 0x80 l.filtered)) c.distinguisher_fits (octets_zeros 16) c.asn_fits c.id_fits
     c.seconds_fit c.microseconds_fit tail tail_bytes limit
-    ∙ (λ i. record { refusal = no_refusal; stop = 42; warnings = unwarned i; header = loc_rib_header l })
+    ∙ (λ i. Ok (record { stop = 42; warnings = unwarned i; header = loc_rib_header l }))

@@ -9,7 +9,7 @@ use Rattle.wire.specs.Refusal.{lacking}
 use Rattle.models.specs.Address.{unspecified}
 use Rattle.models.specs.declared.Afi.TheVariants.{Ipv4, Ipv6}
 use Rattle.models.specs.declared.IpAddr.{IpAddr}
-use Rattle.per_peer_header.specs.Shown.{refused}
+use Rattle.per_peer_header.specs.Shown.{refused, header_of, warnings_in}
 use Rattle.per_peer_header.specs.Read.{read_per_peer_header}
 use Rattle.per_peer_header.proofs.Promises.{refuses_cut}
 
@@ -23,7 +23,7 @@ header (kind, flags) = kind ∷ flags ∷ (be 8 1 ++ (octets ++ (1 ∷ 2 ∷ 3 �
 
 -- the address, the AS and the warnings that are shown
 abbrev seen : ℕ × ℕ → IpAddr × ℕ × ℕ
-seen x = let a = read_per_peer_header (header x) in (a.header.peer_ip, a.header.peer_asn.0, a.warnings)
+seen x = let a = read_per_peer_header (header x) in ((header_of a).peer_ip, (header_of a).peer_asn.0, warnings_in a)
 
 abbrev last : IpAddr
 last = record { octets = replicate 12 0 ++ (13 ∷ 14 ∷ 15 ∷ 16 ∷ []); afi = Ipv4 }

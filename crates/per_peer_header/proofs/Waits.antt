@@ -11,13 +11,11 @@ use Rattle.wire.specs.Number as Number
 use Rattle.wire.specs.Bytes.{pick, has, num_at}
 use Rattle.wire.specs.Refusal.{refusal, cut_at}
 use Rattle.wire.specs.Waits.{Never, Waits, MissingTells}
-use Rattle.wire.specs.declared.Refusal.{Refusal}
 use Rattle.wire.proofs.Waits.{Judge, by_number, said, ends, good, test, need, ask, waits_by, tells_by}
 use Rattle.layout.specs.Layout.{cut_in}
 use Rattle.layout.proofs.Waits.{fields, fields_judge}
-use Rattle.per_peer_header.specs.Shown.{shown, refused}
+use Rattle.per_peer_header.specs.Shown.{shown, refused, refusal_of}
 use Rattle.per_peer_header.specs.Read.{parts_of, read_per_peer_header, reader}
-use Rattle.per_peer_header.specs.declared.PerPeerHeaderAnswer.{PerPeerHeaderAnswer}
 
 -- the type, which is known, and then the other fields
 abbrev behind_type : List ℕ
@@ -27,13 +25,10 @@ judged : Judge Never 0 0
 judged =
     ask 1 (test (λ s. ltb 3 (num_at 1 s 0)) (by_number 1 0 (omega arith) (ltb 3)) (ends Number.UnknownKind 0 refl) (fields behind_type 1 42 refl good))
 
-reads : (s : List ℕ) → (read_per_peer_header s).refusal ≡ pick (ltb Number.limit (length s)) (refusal Number.TooLong 0) (judged.judge s)
+reads : (s : List ℕ) → refusal_of (read_per_peer_header s) ≡ pick (ltb Number.limit (length s)) (refusal Number.TooLong 0) (judged.judge s)
 unfolding judged ask need test good ends
 reads s = said refusal_of (ltb Number.limit (length s)) refl (go (has 1 s 0) refl)
   where
-    refusal_of : PerPeerHeaderAnswer → Refusal
-    refusal_of a = a.refusal
-
     go : (b : Bool) → has 1 s 0 ≡ b
         → refusal_of (pick (ltb 3 (pick b (num_at 1 s 0) 0)) (refused (refusal Number.UnknownKind 0))
         (pick (ltb (length s) 42) (refused (pick b (cut_in behind_type 1 (length s)) (cut_at (length s) 0 1))) (shown (parts_of s))))

@@ -6,11 +6,12 @@ use mathlib.Core.List.{List, [], ◌∷◌}
 use native.Mathlib.Nat.{one-le-pow}
 use native.Mathlib.Omega.{arith}
 use borrow.Author.Tests.{ne_eqb}
-use lib.Dec.{eqb, lit<}
+use lib.Dec.{eqb, lit<, lit≤}
 use lib.ListN.{length, take, drop}
-use Rattle.wire.specs.Bytes.{value, num_at}
+use Rattle.wire.specs.Bytes.{value, num_at, number_at}
 use Rattle.wire.proofs.Bytes.{num_split}
 use Rattle.per_peer_header.specs.Warnings.{zero_filled}
+use Rattle.per_peer_header.proofs.Fields.{there}
 
 -- a number of two parts is zero where both are
 both_zero : (a p b : ℕ) → 0 < p → eqb (a * p + b) 0 ≡ eqb a 0 && eqb b 0
@@ -25,5 +26,12 @@ zero_value (b ∷ l) =
     both_zero b (256 ^ length l) (value l) (one-le-pow (length l) 256 (lit< tt)) ∙ ap (λ (x : Bool). eqb b 0 && x) (zero_value l)
 
 -- the address of a header, as two numbers of eight bytes
-pub halves_zero : (s : List ℕ) → 42 ≤ length s → eqb (num_at 8 s 10) 0 && eqb (num_at 8 s 18) 0 ≡ zero_filled (take 16 (drop 10 s))
-halves_zero s long = rw (← both_zero (num_at 8 s 10) (256 ^ 8) (num_at 8 s 18) (lit< tt), ← num_split 8 8 s 10 (omega arith)) (zero_value (take 16 (drop 10 s)))
+pub halves_zero : (s : List ℕ) → 42 ≤ length s → eqb (number_at 8 s 10) 0 && eqb (number_at 8 s 18) 0 ≡ zero_filled (take 16 (drop 10 s))
+halves_zero s long =
+    rw (
+      there s long 8 10 (lit≤ tt),
+      there s long 8 18 (lit≤ tt),
+      ← both_zero (num_at 8 s 10) (256 ^ 8) (num_at 8 s 18) (lit< tt),
+      ← num_split 8 8 s 10 (omega arith),
+    )
+    (zero_value (take 16 (drop 10 s)))

@@ -7,9 +7,8 @@ use Rattle.wire.specs.Exactly.{Reader}
 use Rattle.layout.specs.Layout.{cut_in}
 use Rattle.per_peer_type.specs.Peer.{is_loc_rib, flag_v, flag_a}
 use Rattle.per_peer_header.specs.Grammar.{widths, AddressField, ipv4, ipv6, unused, AsField, as16, as32, Reading, grammar}
-use Rattle.per_peer_header.specs.Shown.{shown, refused}
+use Rattle.per_peer_header.specs.Shown.{PerPeerHeaderResult, shown, refused, refusal_of, stop_of}
 use Rattle.per_peer_header.specs.Told.{told}
-use Rattle.per_peer_header.specs.declared.PerPeerHeaderAnswer.{PerPeerHeaderAnswer}
 
 -- the sixteen bytes of an address, and the number of an AS's four, taken apart by type and flags
 abbrev pub address_field : ℕ → ℕ → List ℕ → AddressField
@@ -36,7 +35,7 @@ parts_of s =
     }
 
 -- The type is judged where it is there, before the length: `number_at` is 0 where it is not.
-abbrev pub read_per_peer_header : List ℕ → PerPeerHeaderAnswer
+abbrev pub read_per_peer_header : List ℕ → PerPeerHeaderResult
 read_per_peer_header s =
     pick (ltb Number.limit (length s)) (refused (refusal Number.TooLong 0))
     (pick (ltb 3 (number_at 1 s 0)) (refused (refusal Number.UnknownKind 0))
@@ -52,12 +51,12 @@ abbrev pub reader : Reader
 reader =
     record {
       grammar = grammar;
-      Answer = PerPeerHeaderAnswer;
+      Answer = PerPeerHeaderResult;
       read = read_per_peer_header;
       shown = shown;
-      tail_at = λ a. a.stop;
+      tail_at = stop_of;
       told = told;
       refused = refused;
-      refusal_of = λ a. a.refusal;
+      refusal_of = refusal_of;
       numbers = numbers;
     }

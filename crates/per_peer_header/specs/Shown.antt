@@ -1,5 +1,5 @@
 -- How a reading is shown in the answer, and what a refusal shows.
-use Rattle.std.specs.Prelude.{ℕ, ◌++◌, replicate}
+use Rattle.std.specs.Prelude.{ℕ, Result, Ok, Err, ◌++◌, replicate}
 use Rattle.std.specs.Float.{binary64}
 use Rattle.std.specs.Float.Ieee.{of_bits}
 use Rattle.wire.specs.Refusal.{no_refusal}
@@ -39,11 +39,34 @@ shown_header r =
       microseconds = r.microseconds;
     }
 
--- the good answer: the header, its end as the stop, and the warnings
-abbrev pub shown : Reading → PerPeerHeaderAnswer
-shown r = record { refusal = no_refusal; stop = 42; warnings = warnings r; header = shown_header r }
+-- what the reader gives: an answer, or why there is none
+abbrev pub PerPeerHeaderResult : Type 0
+PerPeerHeaderResult = Result PerPeerHeaderAnswer Refusal
 
--- a refusal shows nothing: every number is zero, the address is IPv4 and the time unavailable
+-- the good answer: the header, its end as the stop, and the warnings
+abbrev pub answer_of : Reading → PerPeerHeaderAnswer
+answer_of r = record { stop = 42; warnings = warnings r; header = shown_header r }
+
+abbrev pub shown : Reading → PerPeerHeaderResult
+shown r = Ok (answer_of r)
+
+abbrev pub refused : Refusal → PerPeerHeaderResult
+refused r = Err r
+
+-- what each result says: its refusal, its stop, its warnings and its header, all zero where it refuses; the address is IPv4 there, and the
+-- time unavailable
+abbrev pub refusal_of : PerPeerHeaderResult → Refusal
+refusal_of (Ok a) = no_refusal
+refusal_of (Err r) = r
+
+abbrev pub stop_of : PerPeerHeaderResult → ℕ
+stop_of (Ok a) = a.stop
+stop_of (Err r) = 0
+
+abbrev pub warnings_in : PerPeerHeaderResult → ℕ
+warnings_in (Ok a) = a.warnings
+warnings_in (Err r) = 0
+
 abbrev pub zero_header : BmpPerPeerHeader
 zero_header =
     record {
@@ -58,5 +81,6 @@ zero_header =
       microseconds = 0;
     }
 
-abbrev pub refused : Refusal → PerPeerHeaderAnswer
-refused r = record { refusal = r; stop = 0; warnings = 0; header = zero_header }
+abbrev pub header_of : PerPeerHeaderResult → BmpPerPeerHeader
+header_of (Ok a) = a.header
+header_of (Err r) = zero_header

@@ -9,7 +9,7 @@ use Rattle.models.specs.declared.IpAddr.{IpAddr}
 use Rattle.per_peer_type.specs.Peer.{kind_of, is_loc_rib, flag_a}
 use Rattle.per_peer_record.specs.declared.BmpPerPeerHeader.{BmpPerPeerHeader}
 use Rattle.per_peer_header.specs.Grammar.{AddressField, ipv4, ipv6, unused, AsField, as16, as32, Reading, Skipped}
-use Rattle.per_peer_header.specs.declared.PerPeerHeaderAnswer.{PerPeerHeaderAnswer}
+use Rattle.per_peer_header.specs.Shown.{PerPeerHeaderResult, header_of}
 
 -- an IPv4 address is the last four octets that are shown; of a Loc-RIB nothing is shown
 abbrev pub told_ip : Afi → List ℕ → List ℕ → AddressField
@@ -36,5 +36,5 @@ told_header h x tail =
       tail = tail;
     }
 
-abbrev pub told : (View → List ℕ) → PerPeerHeaderAnswer → Skipped → List ℕ → Reading
-told look a x tail = told_header a.header x tail
+abbrev pub told : (View → List ℕ) → PerPeerHeaderResult → Skipped → List ℕ → Reading
+told look a x tail = told_header (header_of a) x tail

@@ -6,18 +6,18 @@ ghost use Rattle.wire.specs.Bytes.{pick};
 ghost use Rattle.layout.specs.Layout.{cut_in};
 ghost use Rattle.per_peer_header.specs.Grammar.{widths};
 ghost use Rattle.per_peer_header.specs.Warnings.{zero_filled, warnings_of};
-ghost use Rattle.per_peer_header.specs.Shown.{shown_address, shown_asn, shown, refused};
+ghost use Rattle.per_peer_header.specs.Shown.{shown_address, shown_asn, answer_of};
 ghost use Rattle.per_peer_header.specs.Read.{address_field, as_field, parts_of, read_per_peer_header};
 
 use models::{Asn, AsnLength, BgpIdentifier, IpAddr, PeerDistinguisher};
+use numbers::WireNumber;
 use per_peer_record::BmpPerPeerHeader;
-use per_peer_type::{BmpPeerType, PerPeerFlags};
+use per_peer_type::PerPeerFlags;
 use wire::Refusal;
 
-// The header, the place after it and the warnings; where it is refused, the refusal and zeros.
+// The header, the place after it and the warnings.
 #[derive(Clone, Copy)]
 pub struct PerPeerHeaderAnswer {
-    pub refusal: Refusal,
     pub stop: usize,
     pub warnings: u32,
     pub header: BmpPerPeerHeader,
@@ -26,21 +26,21 @@ pub struct PerPeerHeaderAnswer {
 // How many bytes the header takes.
 pub const PER_PEER_HEADER: usize = 42;
 
-// Reads the header at the front of the bytes. The type is judged before the length, so that an unknown one is named even where more is missing; where there is no byte at
-// all, u8_at gives 0 and the length refuses.
-pub fn parse_per_peer_header(s: &[u8]) -> PerPeerHeaderAnswer
+// Reads the header at the front of the bytes. The type is judged before the length, so that an unknown one is named even where more is
+// missing; where there is no byte at all, u8_at gives 0 and the length refuses.
+pub fn parse_per_peer_header(s: &[u8]) -> Result<PerPeerHeaderAnswer, Refusal>
     ensures { result ≡ read_per_peer_header s.now }
 {
     if wire::LIMIT < s.len() {
-        return refused(wire::refusal_at(wire::TOO_LONG, 0));
+        return Err(wire::refusal_at(wire::TOO_LONG, 0));
     }
-    if per_peer_type::LOCAL_RIB < numbers::u8_at(s, 0) {
-        return refused(wire::refusal_at(wire::UNKNOWN_KIND, 0));
+    if per_peer_type::LOCAL_RIB < u8::read_at(s, 0) {
+        return Err(wire::refusal_at(wire::UNKNOWN_KIND, 0));
     }
     if s.len() < PER_PEER_HEADER {
-        return refused(cut(s.len()));
+        return Err(cut(s.len()));
     }
-    read_header(s)
+    Ok(read_header(s))
 }
 
 // An address of 16 bytes is one field, and so is an AS of 4.
@@ -51,56 +51,32 @@ fn cut(there: usize) -> Refusal
     layout::cut_in(&widths, 0, there)
 }
 
-// A refusal shows no header: all of it is zero, and its time unavailable.
-fn refused(refusal: Refusal) -> PerPeerHeaderAnswer
-    ensures { result ≡ refused refusal }
-{
-    let header = BmpPerPeerHeader {
-        peer_type: BmpPeerType::Global,
-        peer_flags: PerPeerFlags(0),
-        peer_distinguisher: PeerDistinguisher(0),
-        peer_ip: IpAddr::unspecified(),
-        peer_asn: Asn(0),
-        peer_bgp_id: BgpIdentifier(0),
-        timestamp: 0.0,
-        seconds: 0,
-        microseconds: 0,
-    };
-    PerPeerHeaderAnswer {
-        refusal: refusal,
-        stop: 0,
-        warnings: 0,
-        header: header,
-    }
-}
-
 fn read_header(s: &[u8]) -> PerPeerHeaderAnswer
     requires { 42 ≤ length s.now }
-    ensures { result ≡ shown (parts_of s.now) }
+    ensures { result ≡ answer_of (parts_of s.now) }
 {
-    let kind = numbers::u8_at(s, 0);
-    let flags = PerPeerFlags(numbers::u8_at(s, 1));
-    let distinguisher = numbers::u64_at(s, 2);
+    let kind = u8::read_at(s, 0);
+    let flags = PerPeerFlags(u8::read_at(s, 1));
+    let distinguisher = u64::read_at(s, 2);
     let address = addresses::sixteen_at(s, 10);
-    let id = numbers::u32_at(s, 30);
-    let seconds = numbers::u32_at(s, 34);
-    let microseconds = numbers::u32_at(s, 38);
+    let id = u32::read_at(s, 30);
+    let seconds = u32::read_at(s, 34);
+    let microseconds = u32::read_at(s, 38);
     let header = BmpPerPeerHeader {
         peer_type: per_peer_type::type_of(kind),
         peer_flags: flags,
         peer_distinguisher: PeerDistinguisher(distinguisher),
         peer_ip: shown_address(kind, flags, address),
-        peer_asn: Asn(shown_asn(kind, flags, numbers::u32_at(s, 26))),
+        peer_asn: Asn(shown_asn(kind, flags, u32::read_at(s, 26))),
         peer_bgp_id: BgpIdentifier(id),
         timestamp: times::timestamp(seconds, microseconds),
-        seconds: seconds,
-        microseconds: microseconds,
+        seconds,
+        microseconds,
     };
     PerPeerHeaderAnswer {
-        refusal: wire::no_refusal(),
         stop: PER_PEER_HEADER,
         warnings: warnings_of(s, kind, id, distinguisher),
-        header: header,
+        header,
     }
 }
 
@@ -137,12 +113,14 @@ fn warnings_of(s: &[u8], kind: u8, id: u32, distinguisher: u64) -> u32
     word_of(is_zero_filled(s), lacks_router_id(id, distinguisher))
 }
 
-// Whether the sixteen octets of the address are zero, as two numbers, so that no octet of it is looked at alone.
+// Whether the sixteen octets of the address are zero, as two numbers, so that no octet of it is looked at alone. `==` with an array of
+// zeros is slower: the compiler takes the array apart that is shown.
+#[tactic(auto, using(crate::proofs::Warned::halves_zero))]
 fn is_zero_filled(s: &[u8]) -> bool
     requires { 42 ≤ length s.now }
     ensures { result ≡ zero_filled (take 16 (drop 10 s.now)) }
 {
-    numbers::u64_at(s, 10) == 0 && numbers::u64_at(s, 18) == 0
+    u64::read_at(s, 10) == 0 && u64::read_at(s, 18) == 0
 }
 
 fn lacks_router_id(id: u32, distinguisher: u64) -> bool
@@ -154,17 +132,15 @@ fn lacks_router_id(id: u32, distinguisher: u64) -> bool
 fn word_of(zero_filled: bool, no_router_id: bool) -> u32
     ensures { result ≡ pick (not zero_filled) 1 0 + pick no_router_id 2 0 }
 {
-    if zero_filled {
-        if no_router_id {
-            models::NO_ROUTER_ID
-        } else {
-            0
-        }
+    let stray_address = if zero_filled {
+        0
     } else {
-        if no_router_id {
-            models::STRAY_ADDRESS + models::NO_ROUTER_ID
-        } else {
-            models::STRAY_ADDRESS
-        }
-    }
+        models::STRAY_ADDRESS
+    };
+    let no_router_id = if no_router_id {
+        models::NO_ROUTER_ID
+    } else {
+        0
+    };
+    stray_address + no_router_id
 }

@@ -10,17 +10,12 @@ use Rattle.wire.specs.Tlv.{put_tlv, GoodTlv}
 use Rattle.wire.specs.Tlv as Wire
 use Rattle.wire.specs.TlvAt.{tlv_of}
 use Rattle.wire.specs.Walk.{stop, item}
-use Rattle.wire.specs.declared.Refusal.{Refusal}
-use Rattle.cursor.specs.declared.Cursor.{Cursor}
 use Rattle.wire.proofs.Bytes.{num_lt}
 use Rattle.wire.proofs.Tlv.{tlv_length, tlv_there, tlv_join, tlv_rest, tlv_parts, coded_join, coded_parts}
-use Rattle.wire.proofs.Walk.{Takes, Faults, Laws, Tails, onwards, TurnTo, turn_to, onwards_bad}
+use Rattle.wire.proofs.Walk.{Takes, Faults, Laws, Tails}
 use Rattle.route_mirroring.specs.Grammar.{Tlv, bgp_message, information, put, GoodInformation, ReadTlv, GoodTail, size_of}
-use Rattle.route_mirroring.specs.Shown.{refused_answer}
-use Rattle.route_mirroring.specs.Read.{message_of, step, step_at, kit, answer}
-use Rattle.route_mirroring.specs.declared.RouteMirroringTlv.{RouteMirroringTlv}
-use Rattle.route_mirroring.specs.declared.Step.TheVariants.{Bad, Whole}
-use Rattle.route_mirroring.proofs.Steps.{see, none_of, whole_message, whole_info, Found, found_message, found_info, found, stopped, numbered, was_bad, was_whole}
+use Rattle.route_mirroring.specs.Read.{message_of, step, kit}
+use Rattle.route_mirroring.proofs.Steps.{see, none_of, whole_message, whole_info, Found, found_message, found_info, found, stopped, numbered}
 
 pub faults : Faults kit
 faults s r e = numbered s r (see s) e
@@ -84,17 +79,3 @@ tails =
       stops = λ z p e. ((stopped z (see z) e, p), refl);
       ends = λ z g. (none_of z g.0, refl);
     }
-
--- ---- a turn of the reader's loop that finds a fault
-pub refuses : (n at : ℕ) (table : List RouteMirroringTlv) (s : List ℕ) (d : Refusal) → n ≤ at → step_at s at ≡ Bad d
-    → answer (onwards kit n at table s) ≡ refused_answer d
-refuses n at table s d few e =
-    let w = was_bad at d (step (drop at s)) e in
-    ap answer (onwards_bad kit nil n at table s w.0 few w.1) ∙ ap refused_answer w.2
-
--- ---- a turn that finds a TLV
-pub onward : (n at : ℕ) (table : List RouteMirroringTlv) (s : List ℕ) (kind size number : ℕ) (c : Cursor) → n ≤ at → at ≤ length s
-    → step_at s at ≡ Whole kind size number c → TurnTo kit takes n at table s (record { kind = kind; info_len = size; number = number }) c.at
-onward n at table s kind size number c few h e =
-    let w = was_whole at kind size number c (step (drop at s)) e in
-    turn_to kit takes n at table s w.0 _ c.at few h w.1 w.2 w.3

@@ -22,8 +22,7 @@ use Rattle.route_mirroring.specs.Read.{kit, read_mirroring, reader, answer, widt
 use Rattle.route_mirroring.specs.declared.RouteMirroringInfo.{RouteMirroringInfo}
 use Rattle.route_mirroring.specs.declared.RouteMirroringValue.{RouteMirroringValue}
 use Rattle.route_mirroring.specs.declared.RouteMirroringTlv.{RouteMirroringTlv}
-use Rattle.route_mirroring.specs.declared.RouteMirroringAnswer.{RouteMirroringAnswer}
-use Rattle.route_mirroring.specs.Shown.{info_of, code_of, value_of, refused_answer}
+use Rattle.route_mirroring.specs.Shown.{info_of, code_of, value_of, ReadMirroring, refused_answer, refusal_of}
 use Rattle.route_mirroring.proofs.Laws.{faults, laws, tails}
 use Rattle.route_mirroring.proofs.Shows.{shows_of, ViewAt, code_told, view_at}
 use Rattle.route_mirroring.proofs.Told as ToldProofs
@@ -34,8 +33,8 @@ use Rattle.route_mirroring.proofs.Cuts.{cuts}
 -- What the reader accepts has a good reading that fits, and it shows that reading.
 pub sound : Sound reader
 sound s p e =
-    let n = not_too_long (λ (a : RouteMirroringAnswer). a.refusal.number) _ _ (length s) refl e in
-    let a = read_accepted kit laws tails (λ (x : RouteMirroringAnswer). x.refusal.number) answer faults (λ r. refl) 0 s p n.1 in
+    let n = not_too_long (λ (a : ReadMirroring). (refusal_of a).number) _ _ (length s) refl e in
+    let a = read_accepted kit laws tails (λ (x : ReadMirroring). (refusal_of x).number) answer faults (λ r. refl) 0 s p n.1 in
     (record { tlvs = a.0; tail = a.1 }, shows_of s n.0 a.0 a.1 a.2)
 
 -- Every good reading that fits is accepted, and shown.
@@ -81,7 +80,8 @@ pub code_number : (n : ℕ) → n ≤ 1 → code_of (info_of n) ≡ n
 code_number = code_told
 
 -- A Cut is at the first part that is not whole, behind TLVs that are, with as many missing as it lacks.
-pub refuses_cut : (s : List ℕ) → Bytes s → (read_mirroring s).refusal.number ≡ Number.Cut → CutAfter put ReadTlv size_of widths_in 0 s (read_mirroring s).refusal
+pub refuses_cut : (s : List ℕ) → Bytes s → (refusal_of (read_mirroring s)).number ≡ Number.Cut
+    → CutAfter put ReadTlv size_of widths_in 0 s (refusal_of (read_mirroring s))
 refuses_cut =
     body_cut kit laws widths_in (λ z. cuts_in (widths_in z) (length z) (step z) (cuts z)) reader _ answer (λ s. refl) refl
     (λ n at table z. refl) (λ r. refl)
@@ -96,5 +96,5 @@ pub value_determined : (t : RouteMirroringTlv) (r q : RouteMirroringValue) → r
 value_determined t r q = determined
 
 -- Two answers of the reader to the same bytes are equal.
-pub parse_determined : (s : List ℕ) (a b : RouteMirroringAnswer) → a ≡ read_mirroring s → b ≡ read_mirroring s → a ≡ b
+pub parse_determined : (s : List ℕ) (a b : ReadMirroring) → a ≡ read_mirroring s → b ≡ read_mirroring s → a ≡ b
 parse_determined s a b = determined

@@ -1,8 +1,8 @@
--- One step of the walk by its cases; what `step_at` answers in each, and what its answer says of the step. Assumes nothing.
+-- One step of the walk by its cases; what it says of the bytes, and what `step_at` answers in each. Assumes nothing.
 use mathlib.Core.Path.{◌≡◌, refl, sym, ap, ◌∙◌, subst}
 use mathlib.Core.List.{List}
 use mathlib.Core.Bool.{Bool, true, false}
-use Prim.Native.Nat.{ℕ, zero, suc, ◌+◌, ◌-◌, ◌≤◌, ◌<◌}
+use Prim.Native.Nat.{ℕ, ◌+◌, ◌-◌, ◌≤◌, ◌<◌}
 use native.Mathlib.Omega.{arith}
 use native.Mathlib.Nat.{add-zero}
 use borrow.Author.Tests.{lt-leb, le-leb, lt-ltb, le-ltb, eq-eqb, ne_eqb, leb-true, leb-false, ltb-false, eqb-true, eqb-false}
@@ -10,25 +10,25 @@ use lib.Dec.{leb, ltb, eqb}
 use lib.ListN.{length, drop, length-drop}
 use Rattle.wire.specs.Number as Number
 use Rattle.wire.specs.Bytes.{pick, num_at}
-use Rattle.wire.specs.Refusal.{refusal, cut_at}
-use Rattle.cursor.specs.Read.{cursor}
+use Rattle.wire.specs.Refusal.{refusal, cut_at, need_at}
+use Rattle.cursor.specs.Read.{cursor, read}
 use Rattle.wire.specs.Walk as Walk
-use Rattle.wire.specs.Walk.{stop, bad, item, from}
+use Rattle.wire.specs.Walk.{stop, bad, item}
 use Rattle.wire.specs.declared.Refusal.{Refusal}
-use Rattle.wire.proofs.Needs.{cut_from}
+use Rattle.std.specs.declared.result.Result.TheVariants.{Ok, Err}
+use Rattle.std.specs.declared.option.Option.TheVariants.{Some, None}
+use Rattle.cursor.proofs.Reading as Reading
+use Rattle.cursor.proofs.Reading.{Was, was_got, was_in}
+use Rattle.tlv_head.specs.Head.{head_at}
+use Rattle.tlv_head.specs.declared.TlvHead.{TlvHead}
+use Rattle.tlv_head.proofs.Heads.{Head, was_found, was_short}
+use Rattle.wire.proofs.Needs.{was_met, was_cut, cut_from}
 use Rattle.cursor.specs.declared.Cursor.{Cursor}
 use Rattle.route_mirroring.specs.Grammar.{Tlv, size_of}
-use Rattle.route_mirroring.specs.Shown.{info_of, entry}
-use Rattle.route_mirroring.specs.Read.{message_of, information_of, message_step, information_step, step, as_step, step_at}
-use Rattle.route_mirroring.specs.declared.RouteMirroringInfo.TheVariants.{MessageLost}
-use Rattle.route_mirroring.specs.declared.Step.TheVariants.{Stop, Bad, Whole}
-
--- every code but 0 gets the last name, as in the last arm of `info_of`
-pub lost_above : (n : ℕ) → 0 < n → info_of n ≡ MessageLost
-unfolding info_of
-lost_above zero h = absurd (omega arith)
-lost_above (suc zero) h = refl
-lost_above (suc (suc n)) h = refl
+use Rattle.route_mirroring.specs.Shown.{entry}
+use Rattle.route_mirroring.specs.Read.{message_of, information_of, message_step, information_step, step, stop_at, Stepped, stepped, step_at}
+use Rattle.walk.specs.Walk.{step_of}
+use Rattle.walk.specs.declared.Step.TheVariants.{Stop, Whole}
 
 -- a whole TLV of each type at the front of the bytes
 pub record Message (s : List ℕ) : Type 0 where
@@ -113,97 +113,105 @@ pub data Found (s : List ℕ) : Tlv → Type 0 where
   found_info : Info s → Found s (information_of s)
 
 pub found : (s : List ℕ) (t : Tlv) {x : Walk.Step Tlv} → Seen s x → x ≡ item t → Found s t
-found s t (none h) q = let z : ◌≡◌ {A = ℕ} 0 1 = cc in absurd (omega arith)
-found s t (fault r h) q = let z : ◌≡◌ {A = ℕ} 0 1 = cc in absurd (omega arith)
+found s t (none h) q = absurd cc
+found s t (fault r h) q = absurd cc
 found s t (message m) q = let e : message_of s ≡ t = cc in subst (Found s) e (found_message m)
 found s t (info i) q = let e : information_of s ≡ t = cc in subst (Found s) e (found_info i)
 
 pub stopped : (s : List ℕ) {x : Walk.Step Tlv} → Seen s x → x ≡ stop → length s ≤ 4
 stopped s (none h) q = h
-stopped s (fault r h) q = let z : ◌≡◌ {A = ℕ} 0 1 = cc in absurd (omega arith)
-stopped s (message m) q = let z : ◌≡◌ {A = ℕ} 0 1 = cc in absurd (omega arith)
-stopped s (info i) q = let z : ◌≡◌ {A = ℕ} 0 1 = cc in absurd (omega arith)
+stopped s (fault r h) q = absurd cc
+stopped s (message m) q = absurd cc
+stopped s (info i) q = absurd cc
 
 pub numbered : (s : List ℕ) (r : Refusal) {x : Walk.Step Tlv} → Seen s x → x ≡ bad r → 0 < r.number
-numbered s r (none h) q = let z : ◌≡◌ {A = ℕ} 0 1 = cc in absurd (omega arith)
+numbered s r (none h) q = absurd cc
 numbered s r (fault d h) q = let e : d ≡ r = cc in subst (λ (j : Refusal). 0 < j.number) e h
-numbered s r (message m) q = let z : ◌≡◌ {A = ℕ} 0 1 = cc in absurd (omega arith)
-numbered s r (info i) q = let z : ◌≡◌ {A = ℕ} 0 1 = cc in absurd (omega arith)
+numbered s r (message m) q = absurd cc
+numbered s r (info i) q = absurd cc
 
--- ---- each answer of `step_at`
+-- ---- each answer of `step_at`, by the head that was read
 module _ (s : List ℕ) (at : ℕ) where
-  pub brief_at : length s - at ≤ 4 → step_at s at ≡ Stop at
-  brief_at h = ap (as_step at) (none_of (drop at s) (simp length-drop h))
+  pub brief_at : head_at 1 s at ≡ None → ◌≡◌ {A = Stepped} (Ok (Stop at)) (step_at s at)
+  brief_at e =
+      let h = was_short 1 s at refl (sym e) in
+      sym (ap (step_of entry size_of stop_at at (drop at s)) (none_of (drop at s) (simp length-drop (omega arith))))
 
-  module _ (long : 4 < length s - at) (kind : ℕ) (kind_is : num_at 2 (drop at s) 0 ≡ kind) where
-    long' : 4 < length (drop at s)
-    long' = simp length-drop long
+  module _ (h : TlvHead) (e : head_at 1 s at ≡ Some h) where
+    head : Head 1 s at h
+    head = was_found 1 s at e refl
 
-    pub strange_at : 1 < kind → step_at s at ≡ Bad (refusal Number.BadTlvType at)
+    long : 4 < length (drop at s)
+    long = let w = head in simp length-drop (omega arith)
+
+    -- and what `message_at` and `information_at` are told of it
+    pub asked : (h.length ≡ num_at 2 (drop at s) 2) × (h.value.at ≡ at + 4)
+    asked = let w = head in (sym w.size_is, w.next)
+
+    pub strange_at : 1 < h.kind → ◌≡◌ {A = Stepped} (Err (refusal Number.BadTlvType at)) (step_at s at)
     unfolding step
-    strange_at h = rw (lt-leb (length (drop at s)) 4 long', kind_is, lt-ltb 1 kind h, add-zero at)
+    strange_at k = let w = head in rw (lt-leb (length (drop at s)) 4 long, w.kind_is, lt-ltb 1 h.kind k, add-zero at)
 
-    pub message-at : kind ≡ 0 → step_at s at ≡ as_step at (message_step (drop at s))
-    message-at h = ap (as_step at) (message-of (drop at s) long' (kind_is ∙ h))
+    pub message-at : h.kind ≡ 0 → stepped message_step s at ≡ step_at s at
+    message-at k = let w = head in sym (ap (step_of entry size_of stop_at at (drop at s)) (message-of (drop at s) long (w.kind_is ∙ k)))
 
-    pub information-at : kind ≡ 1 → step_at s at ≡ as_step at (information_step (drop at s))
-    information-at h = ap (as_step at) (information-of (drop at s) long' (kind_is ∙ h))
+    pub information-at : h.kind ≡ 1 → stepped information_step s at ≡ step_at s at
+    information-at k = let w = head in sym (ap (step_of entry size_of stop_at at (drop at s)) (information-of (drop at s) long (w.kind_is ∙ k)))
 
 -- ---- each answer of `message_at` and of `information_at`, where the value starts at a place
-module _ (s : List ℕ) (at size : ℕ) (size_is : size ≡ num_at 2 (drop at s) 2) (place : ℕ) (place_is : place ≡ at + 4) where
-  pub small_at : size < 19 → as_step at (message_step (drop at s)) ≡ Bad (refusal Number.BgpLength (at + 2))
+module _ (s : List ℕ) (at size place : ℕ) (asked_for : (size ≡ num_at 2 (drop at s) 2) × (place ≡ at + 4)) where
+  size_is : size ≡ num_at 2 (drop at s) 2
+  size_is = asked_for.0
+
+  pub small_at : size < 19 → ◌≡◌ {A = Stepped} (Err (refusal Number.BgpLength (at + 2))) (stepped message_step s at)
   unfolding message_step
   small_at h = rw (← size_is, lt-ltb size 19 h)
 
-  pub cut-at : 19 ≤ size → length s - place < size → as_step at (message_step (drop at s)) ≡ Bad (cut_at (length s) place size)
+  pub cut-at : 19 ≤ size → (r : Refusal) → need_at (length s) place size ≡ Err r → ◌≡◌ {A = Stepped} (Err r) (stepped message_step s at)
   unfolding message_step
-  cut-at h l =
-      rw (← size_is, le-ltb size 19 h, lt-ltb (length (drop at s) - 4) size (simp length-drop (omega arith))) (ap Bad (cut_from s at 4 place size place_is))
+  cut-at h r q =
+      let lacked = was_cut (length s) place size q refl in
+      rw (← size_is, le-ltb size 19 h, lt-ltb (length (drop at s) - 4) size (simp length-drop (omega (arith, asked_for.1, lacked.few))))
+      (ap Err (lacked.cut_is ∙ sym (cut_from s at 4 place size asked_for.1)))
 
-  pub message_there : 19 ≤ size → size ≤ length s - place
-      → as_step at (message_step (drop at s)) ≡ Whole 0 size place (cursor (place + size))
+  pub message_there : 19 ≤ size → (u : Unit {0}) → need_at (length s) place size ≡ Ok u
+      → ◌≡◌ {A = Stepped} (Ok (Whole (record { kind = 0; info_len = size; number = place }) (cursor (place + size)))) (stepped message_step s at)
   unfolding message_step
-  message_there h l =
-      let end_is : at + (4 + size) ≡ place + size = omega arith in
-      rw (← size_is, le-ltb size 19 h, le-ltb (length (drop at s) - 4) size (simp length-drop (omega arith)))
-      (λ i. Whole 0 size (sym place_is i) (cursor (end_is i)))
+  message_there h u q =
+      let met = was_met (length s) place size q refl in
+      let end_is : place + size ≡ at + (4 + size) = omega (arith, asked_for.1) in
+      rw (← size_is, le-ltb size 19 h, le-ltb (length (drop at s) - 4) size (simp length-drop (omega (arith, asked_for.1))))
+      (λ i. Ok (Whole (record { kind = 0; info_len = size; number = asked_for.1 i }) (cursor (end_is i))))
 
-  pub short_at : length s - place < 2 → as_step at (information_step (drop at s)) ≡ Bad (cut_at (length s) place 2)
+  pub short_at : (r : Refusal) → read 2 s place ≡ Err r → ◌≡◌ {A = Stepped} (Err r) (stepped information_step s at)
   unfolding information_step
-  short_at l = rw (lt-ltb (length (drop at s) - 4) 2 (simp length-drop (omega arith))) (ap Bad (cut_from s at 4 place 2 place_is))
+  short_at r q =
+      let lacked = Reading.was_cut 2 s place q refl in
+      rw (lt-ltb (length (drop at s) - 4) 2 (simp length-drop (omega (arith, asked_for.1, lacked.few))))
+      (ap Err (lacked.cut_is ∙ sym (cut_from s at 4 place 2 asked_for.1)))
 
-  module _ (there : 2 ≤ length s - place) (code : ℕ) (code_is : num_at 2 (drop at s) 4 ≡ code) where
-    there' : 2 ≤ length (drop at s) - 4
-    there' = simp length-drop (omega arith)
+  module _ (code : ℕ) (c : Cursor) (q : read 2 s place ≡ Ok (code, c)) where
+    got : Was 2 s place code c
+    got = was_got 2 s place q refl
 
-    pub unknown_at : 1 < code → as_step at (information_step (drop at s)) ≡ Bad (refusal Number.UnknownKind place)
+    there : 2 ≤ length (drop at s) - 4
+    there = let g = got in simp length-drop (omega (arith, asked_for.1, g.left))
+
+    pub unknown_at : 1 < code → ◌≡◌ {A = Stepped} (Err (refusal Number.UnknownKind place)) (stepped information_step s at)
     unfolding information_step
-    unknown_at h = rw (le-ltb (length (drop at s) - 4) 2 there', code_is, lt-ltb 1 code h, place_is)
+    unknown_at h = rw (le-ltb (length (drop at s) - 4) 2 there, was_in at 4 asked_for.1 got, lt-ltb 1 code h, asked_for.1)
 
-    pub information_there : code ≤ 1 → (after : Cursor) → after.at ≡ place + 2
-        → as_step at (information_step (drop at s)) ≡ Whole 1 size code after
+    pub information_there : code ≤ 1
+        → ◌≡◌ {A = Stepped} (Ok (Whole (record { kind = 1; info_len = size; number = code }) c)) (stepped information_step s at)
     unfolding information_step
-    information_there h after after_is =
-        let end_is : at + 6 ≡ after.at = omega arith in
-        rw (le-ltb (length (drop at s) - 4) 2 there', code_is, le-ltb 1 code h, ← size_is, end_is)
+    information_there h =
+        let g = got in
+        let end_is : at + 6 ≡ c.at = omega (arith, asked_for.1, g.next) in
+        rw (le-ltb (length (drop at s) - 4) 2 there, was_in at 4 asked_for.1 g, le-ltb 1 code h, ← size_is, end_is)
 
--- ---- and the other way
-pub was_stop : (at p : ℕ) (x : Walk.Step Tlv) → as_step at x ≡ Stop p → (x ≡ stop) × (p ≡ at)
-was_stop at p stop q = (refl, cc)
-was_stop at p (bad r) q = (cc, cc)
-was_stop at p (item t) q = (cc, cc)
+-- those that each of the three finds by itself
+pub ruleset step_answers = (brief_at, asked, strange_at)
 
-pub was_bad : (at : ℕ) (d : Refusal) (x : Walk.Step Tlv) → as_step at x ≡ Bad d → (r : Refusal) × (x ≡ bad r) × (from at r ≡ d)
-was_bad at d stop q = (d, cc, cc)
-was_bad at d (bad r) q = (r, refl, cc)
-was_bad at d (item t) q = (d, cc, cc)
+pub ruleset message_answers = (small_at, cut-at, message_there)
 
-pub was_whole : (at kind size number : ℕ) (c : Cursor) (x : Walk.Step Tlv) → as_step at x ≡ Whole kind size number c
-    → (t : Tlv) × (x ≡ item t) × (entry at t ≡ record { kind = kind; info_len = size; number = number }) × (at + size_of t ≡ c.at)
-was_whole at kind size number c stop q = let z : ◌≡◌ {A = ℕ} 0 1 = cc in absurd (omega arith)
-was_whole at kind size number c (bad r) q = let z : ◌≡◌ {A = ℕ} 0 1 = cc in absurd (omega arith)
-was_whole at kind size number c (item t) q =
-    let kind_is : (entry at t).kind ≡ kind = cc in
-    let size_is : (entry at t).info_len ≡ size = cc in
-    let number_is : (entry at t).number ≡ number = cc in
-    (t, refl, λ i. record { kind = kind_is i; info_len = size_is i; number = number_is i }, cc)
+pub ruleset information_answers = (short_at, unknown_at, information_there)

@@ -1,21 +1,19 @@
 -- What the reader answers, for every input.
-use Rattle.std.specs.Prelude.{ℕ, ◌+◌, ◌-◌, List, [], ◌∷◌, length, drop, leb, ltb, eqb}
+use Rattle.std.specs.Prelude.{ℕ, ◌-◌, List, [], ◌∷◌, length, drop, leb, ltb, eqb, Result}
 use Rattle.wire.specs.Number as Number
 use Rattle.wire.specs.Bytes.{pick, num_at}
 use Rattle.wire.specs.Refusal.{refusal, cut_at}
-use Rattle.cursor.specs.Read.{cursor}
 use Rattle.wire.specs.TlvAt.{tlv_of, tlv_widths}
 use Rattle.wire.specs.Walk as Walk
-use Rattle.wire.specs.Walk.{stop, bad, item, from, Kit, Out, good, refused, read_from}
+use Rattle.wire.specs.Walk.{stop, bad, item, Kit, Out, good, refused, read_from}
 use Rattle.wire.specs.Exactly.{Reader}
-use Rattle.cursor.specs.declared.Cursor.{Cursor}
+use Rattle.wire.specs.declared.Refusal.{Refusal}
+use Rattle.walk.specs.Walk.{kit_of, step_of}
+use Rattle.walk.specs.declared.Step.{Step}
 use Rattle.route_mirroring.specs.Grammar.{Tlv, bgp_message, information, places, size_of, grammar}
 use Rattle.route_mirroring.specs.Told as Told
-use Rattle.route_mirroring.specs.Shown.{entry, zero_tlv, good_answer, refused_answer, shown}
+use Rattle.route_mirroring.specs.Shown.{entry, zero_tlv, ReadMirroring, good_answer, refused_answer, refusal_of, stop_of, shown}
 use Rattle.route_mirroring.specs.declared.RouteMirroringTlv.{RouteMirroringTlv}
-use Rattle.route_mirroring.specs.declared.RouteMirroringAnswer.{RouteMirroringAnswer}
-use Rattle.route_mirroring.specs.declared.Step.{Step}
-use Rattle.route_mirroring.specs.declared.Step.TheVariants.{Stop, Bad, Whole}
 
 -- each kind of TLV, where it is all there
 abbrev pub message_of : List ℕ → Tlv
@@ -48,25 +46,27 @@ abbrev pub widths_in : List ℕ → List ℕ
 widths_in s = tlv_widths (pick (eqb (num_at 2 s 0) 0) (num_at 2 s 2) 2)
 
 abbrev pub kit : Kit
-kit = record { Item = Tlv; Entry = RouteMirroringTlv; step = step; size = size_of; entry = entry; none = zero_tlv; limit = places }
+kit = kit_of Tlv RouteMirroringTlv step size_of entry zero_tlv places
 
--- one step at a place, as the code answers it: the stop, the fault, or the numbers of the entry and the cursor past it
-abbrev pub whole_of : RouteMirroringTlv → Cursor → Step
-whole_of t c = Whole t.kind t.info_len t.number c
+-- where a walk stops that finds no TLV more: where it stands
+abbrev pub stop_at : ℕ → List ℕ → ℕ
+stop_at at s = at
 
-abbrev pub as_step : ℕ → Walk.Step Tlv → Step
-as_step at stop = Stop at
-as_step at (bad r) = Bad (from at r)
-as_step at (item t) = whole_of (entry at t) (cursor (at + size_of t))
+-- one step at a place, as the code answers it: the whole, or that of one type
+abbrev pub Stepped : Type 0
+Stepped = Result (Step RouteMirroringTlv) Refusal
 
-abbrev pub step_at : List ℕ → ℕ → Step
-step_at s at = as_step at (step (drop at s))
+abbrev pub stepped : (List ℕ → Walk.Step Tlv) → List ℕ → ℕ → Stepped
+stepped look s at = step_of entry size_of stop_at at (drop at s) (look (drop at s))
 
-abbrev pub answer : Out RouteMirroringTlv → RouteMirroringAnswer
+abbrev pub step_at : List ℕ → ℕ → Stepped
+step_at s at = stepped step s at
+
+abbrev pub answer : Out RouteMirroringTlv → ReadMirroring
 answer (good n at table z) = good_answer n at table
 answer (refused r) = refused_answer r
 
-abbrev pub read_mirroring : List ℕ → RouteMirroringAnswer
+abbrev pub read_mirroring : List ℕ → ReadMirroring
 read_mirroring s =
     pick (ltb Number.limit (length s)) (refused_answer (refusal Number.TooLong 0)) (answer (read_from kit (length s) 0 s))
 
@@ -79,12 +79,12 @@ abbrev pub reader : Reader
 reader =
     record {
       grammar = grammar;
-      Answer = RouteMirroringAnswer;
+      Answer = ReadMirroring;
       read = read_mirroring;
       shown = shown;
-      tail_at = λ a. a.stop;
+      tail_at = stop_of;
       told = Told.told;
       refused = refused_answer;
-      refusal_of = λ a. a.refusal;
+      refusal_of = refusal_of;
       numbers = numbers;
     }

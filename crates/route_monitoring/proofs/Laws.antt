@@ -16,10 +16,10 @@ use Rattle.wire.proofs.Views.{octets_part}
 use Rattle.models.specs.declared.AsnLength.{AsnLength}
 use Rattle.per_peer_type.specs.declared.BmpPeerType.{BmpPeerType}
 use Rattle.route_monitoring.specs.Grammar.{Reading, join, Good}
+use Rattle.std.specs.declared.result.Result.TheVariants.{Err}
 use Rattle.route_monitoring.specs.Shown.{good_of, refusal_of}
 use Rattle.route_monitoring.specs.Told.{parts_of}
 use Rattle.route_monitoring.specs.Read.{read_route_monitoring}
-use Rattle.route_monitoring.specs.declared.RouteMonitoringAnswer.{RouteMonitoringAnswer}
 
 -- ---- joined, then taken apart
 module _ (r : Reading) (g : Good r) where
@@ -69,8 +69,8 @@ module _ (s : List ℕ) (width : AsnLength) (t : BmpPeerType) where
       no q = absurd (omega arith)
 
       go : (a : Bool) → ltb Number.limit (length s) ≡ a → (b : Bool) → ltb (length s) 19 ≡ b
-          → (refusal_of (pick a (RouteMonitoringAnswer.Refused (refusal Number.TooLong 0))
-          (pick b (RouteMonitoringAnswer.Refused (cut_at (length s) 0 19)) (good_of width t (length s))))).number ≡ Number.Good
+          → (refusal_of (pick a (Err (refusal Number.TooLong 0))
+          (pick b (Err (cut_at (length s) 0 19)) (good_of width t (length s))))).number ≡ Number.Good
           → Accepted s
       go true ha b hb q = no q
       go false ha true hb q = no q

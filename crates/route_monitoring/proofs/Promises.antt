@@ -18,10 +18,9 @@ use Rattle.models.specs.declared.AsnLength.{AsnLength}
 use Rattle.per_peer_type.specs.declared.BmpPeerType.{BmpPeerType}
 use Rattle.route_monitoring.specs.Grammar.{Reading, join, Good, grammar}
 use Rattle.route_monitoring.specs.Warnings.{short_as, warnings_of}
-use Rattle.route_monitoring.specs.Shown.{good_of, shown, message_of}
+use Rattle.route_monitoring.specs.Shown.{RouteMonitoringAnswer, good_of, shown, message_of}
 use Rattle.route_monitoring.specs.Told.{parts_of}
 use Rattle.route_monitoring.specs.Read.{read_route_monitoring, reader}
-use Rattle.route_monitoring.specs.declared.RouteMonitoringAnswer.{RouteMonitoringAnswer}
 use Rattle.route_monitoring.proofs.Laws.{length_join, parts_join, join_parts, parts_good, accepted, shows_all}
 use Rattle.route_monitoring.proofs.Refusals as Refusals
 use Rattle.route_monitoring.proofs.Waits as Waiting

@@ -1,5 +1,5 @@
 -- What the reader answers, for every input.
-use Rattle.std.specs.Prelude.{List, [], ◌∷◌, ℕ, length, ltb}
+use Rattle.std.specs.Prelude.{List, [], ◌∷◌, ℕ, length, ltb, Err}
 use Rattle.wire.specs.Number as Number
 use Rattle.wire.specs.Bytes.{pick}
 use Rattle.wire.specs.Refusal.{refusal, cut_at}
@@ -8,13 +8,12 @@ use Rattle.models.specs.declared.AsnLength.{AsnLength}
 use Rattle.per_peer_type.specs.declared.BmpPeerType.{BmpPeerType}
 use Rattle.route_monitoring.specs.Told as Told
 use Rattle.route_monitoring.specs.Grammar.{grammar}
-use Rattle.route_monitoring.specs.Shown.{good_of, shown, refusal_of, stop_of}
-use Rattle.route_monitoring.specs.declared.RouteMonitoringAnswer.{RouteMonitoringAnswer}
+use Rattle.route_monitoring.specs.Shown.{RouteMonitoringAnswer, good_of, shown, refusal_of, stop_of}
 
 abbrev pub read_route_monitoring : AsnLength → BmpPeerType → List ℕ → RouteMonitoringAnswer
 read_route_monitoring width t s =
-    pick (ltb Number.limit (length s)) (RouteMonitoringAnswer.Refused (refusal Number.TooLong 0))
-    (pick (ltb (length s) 19) (RouteMonitoringAnswer.Refused (cut_at (length s) 0 19)) (good_of width t (length s)))
+    pick (ltb Number.limit (length s)) (Err (refusal Number.TooLong 0))
+    (pick (ltb (length s) 19) (Err (cut_at (length s) 0 19)) (good_of width t (length s)))
 
 -- the numbers that it refuses with
 abbrev pub numbers : List ℕ
@@ -30,7 +29,7 @@ reader width t =
       shown = shown width t;
       tail_at = stop_of;
       told = Told.told;
-      refused = RouteMonitoringAnswer.Refused;
+      refused = Err;
       refusal_of = refusal_of;
       numbers = numbers;
     }

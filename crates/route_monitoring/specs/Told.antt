@@ -4,8 +4,7 @@ use Rattle.wire.specs.Bytes.{num_at}
 use Rattle.wire.specs.Exactly.{Nothing}
 use Rattle.wire.specs.declared.View.{View}
 use Rattle.route_monitoring.specs.Grammar.{Reading}
-use Rattle.route_monitoring.specs.Shown.{message_of}
-use Rattle.route_monitoring.specs.declared.RouteMonitoringAnswer.{RouteMonitoringAnswer}
+use Rattle.route_monitoring.specs.Shown.{RouteMonitoringAnswer, message_of}
 
 -- the parts of a message, where it is long enough
 abbrev pub parts_of : List ℕ → Reading

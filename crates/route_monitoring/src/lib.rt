@@ -7,44 +7,30 @@ ghost use Rattle.route_monitoring.specs.Read.{read_route_monitoring};
 
 use models::AsnLength;
 use per_peer_type::BmpPeerType;
-use wire::{Need, Refusal, View};
+use wire::{Refusal, View};
 
 #[derive(Clone, Copy)]
 pub struct RouteMonitoring {
     pub bgp_message: View,
 }
 
-// The message, the place after it and the warnings, or why there is none.
-#[derive(Clone, Copy)]
-pub enum RouteMonitoringAnswer {
-    Good(RouteMonitoring, usize, u32),
-    Refused(Refusal),
-}
-
-// Reads the body, which is one BGP message. The length of an AS number and the type of the peer, which the per-peer header tells, decide
-// the warning.
+// Reads the body, which is one BGP message: the message, the place after it and the warnings. The length of an AS number and the type of
+// the peer, which the per-peer header tells, decide the warning.
 pub fn parse_route_monitoring(
     s: &[u8],
     asn_len: AsnLength,
     peer_type: BmpPeerType,
-) -> RouteMonitoringAnswer
+) -> Result<(RouteMonitoring, usize, u32), Refusal>
     ensures { result ≡ read_route_monitoring asn_len peer_type s.now }
 {
-    if wire::LIMIT < s.len() {
-        return RouteMonitoringAnswer::Refused(wire::refusal_at(wire::TOO_LONG, 0));
+    let length = s.len();
+    if wire::LIMIT < length {
+        return Err(wire::refusal_at(wire::TOO_LONG, 0));
     }
-    match wire::need_at(s.len(), 0, wire::BGP_HEADER) {
-        Need::Cut(refusal) => RouteMonitoringAnswer::Refused(refusal),
-        Need::Met => {
-            let message = RouteMonitoring {
-                bgp_message: View {
-                    place: 0,
-                    length: s.len(),
-                },
-            };
-            RouteMonitoringAnswer::Good(message, s.len(), warnings_of(asn_len, peer_type))
-        }
-    }
+    wire::need_at(length, 0, wire::BGP_HEADER)?;
+    let bgp_message = View { place: 0, length };
+    let warnings = warnings_of(asn_len, peer_type);
+    Ok((RouteMonitoring { bgp_message }, length, warnings))
 }
 
 fn warnings_of(asn_len: AsnLength, peer_type: BmpPeerType) -> u32

@@ -1,22 +1,13 @@
 -- The examples: a reader, the bytes that it is given, and what it must answer.
 use Rattle.std.specs.Prelude.{ℕ, List, [], ◌∷◌}
 use Rattle.wire.specs.Number as Number
-use Rattle.wire.specs.Refusal.{refusal, no_refusal, lacking}
-use Rattle.wire.specs.declared.Refusal.{Refusal}
-use Rattle.specimens.specs.Listed.{Listed, number, Reader, common, statistics, initiation, termination, peer-down, mirroring}
+use Rattle.wire.specs.Refusal.{refusal, lacking}
+use Rattle.specimens.specs.Listed.{Listed, good, refused, number, Reader, common, statistics, initiation, termination, peer-down, mirroring}
 
 pub record Specimen : Type 0 where
   pub reader : Reader
   pub bytes : List ℕ
   pub answer : Listed
-
--- a good answer, by its stop, the tail's start and the fields
-abbrev pub good : ℕ → ℕ → List (List ℕ) → Listed
-good stop tail fields = record { refusal = no_refusal; stop = stop; tail = tail; fields = fields }
-
--- a refusal, with the fields of an all-zero record
-abbrev pub refused : Refusal → List (List ℕ) → Listed
-refused r zero-fields = record { refusal = r; stop = 0; tail = 0; fields = zero-fields }
 
 abbrev pub zero_common : List (List ℕ)
 zero_common = number 0 ∷ number 0 ∷ number 0 ∷ []

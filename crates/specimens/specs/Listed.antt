@@ -1,36 +1,31 @@
 -- An answer of any reader in one form, so that examples for all of them stand in one list.
-use Rattle.std.specs.Prelude.{ℕ, List, [], ◌∷◌, take}
+use Rattle.std.specs.Prelude.{ℕ, List, [], ◌∷◌, take, Ok, Err}
+use Rattle.wire.specs.Refusal.{no_refusal}
 use Rattle.wire.specs.View.{viewed}
 use Rattle.wire.specs.declared.Refusal.{Refusal}
 use Rattle.common_header.specs.Shown as Common
 use Rattle.common_header.specs.Read.{read_common_header}
-use Rattle.common_header.specs.declared.CommonHeaderAnswer.{CommonHeaderAnswer}
 use Rattle.initiation_message.specs.Shown as Initiation
 use Rattle.initiation_message.specs.Read.{read_initiation}
 use Rattle.initiation_message.specs.declared.InitiationTlv.{InitiationTlv}
-use Rattle.initiation_message.specs.declared.InitiationAnswer.{InitiationAnswer}
 use Rattle.peer_down_notification.specs.Grammar.{Data, absent, present}
 use Rattle.peer_down_notification.specs.Shown as PeerDown
 use Rattle.peer_down_notification.specs.Read.{read_peer_down}
 use Rattle.peer_down_notification.specs.Shown.{data_of}
-use Rattle.peer_down_notification.specs.declared.PeerDownAnswer.{PeerDownAnswer}
 use Rattle.route_mirroring.specs.Shown as Mirroring
 use Rattle.route_mirroring.specs.Read.{read_mirroring}
 use Rattle.route_mirroring.specs.declared.RouteMirroringValue.{RouteMirroringValue}
 use Rattle.route_mirroring.specs.declared.RouteMirroringValue.TheVariants.{BgpMessage, Information}
 use Rattle.route_mirroring.specs.declared.RouteMirroringTlv.{RouteMirroringTlv}
-use Rattle.route_mirroring.specs.declared.RouteMirroringAnswer.{RouteMirroringAnswer}
 use Rattle.termination_message.specs.Shown as Termination
 use Rattle.termination_message.specs.Read.{read_termination}
 use Rattle.termination_message.specs.declared.TerminationTlvValue.{TerminationTlvValue}
 use Rattle.termination_message.specs.declared.TerminationTlv.{TerminationTlv}
-use Rattle.termination_message.specs.declared.TerminationAnswer.{TerminationAnswer}
 use Rattle.stats_report.specs.Shown as Statistics
 use Rattle.stats_data.specs.Grammar.{Value, counter, gauge, afi_safi_gauge, raw}
 use Rattle.stats_data.specs.Shown.{value_in}
 use Rattle.stats_report.specs.Read.{read_stats}
 use Rattle.stats_report.specs.declared.StatCounter.{StatCounter}
-use Rattle.stats_report.specs.declared.StatsAnswer.{StatsAnswer}
 
 -- refusal, stop, tail's start and fields; a value that views show is the list of its bytes
 pub record Listed : Type 0 where
@@ -38,6 +33,14 @@ pub record Listed : Type 0 where
   pub stop : ℕ
   pub tail : ℕ
   pub fields : List (List ℕ)
+
+-- a good answer, by its stop, the tail's start and the fields
+abbrev pub good : ℕ → ℕ → List (List ℕ) → Listed
+good stop tail fields = record { refusal = no_refusal; stop = stop; tail = tail; fields = fields }
+
+-- a refusal, with the fields of an all-zero record
+abbrev pub refused : Refusal → List (List ℕ) → Listed
+refused r zero-fields = record { refusal = r; stop = 0; tail = 0; fields = zero-fields }
 
 abbrev pub number : ℕ → List ℕ
 number n = n ∷ []
@@ -51,7 +54,7 @@ pub data Reader : Type 0 where
   mirroring : Reader
 
 -- version, length, type
-abbrev pub listed_common : CommonHeaderAnswer → Listed
+abbrev pub listed_common : Common.CommonHeaderAnswer → Listed
 listed_common a =
     record {
       refusal = Common.refusal_of a;
@@ -72,28 +75,19 @@ listed_counters s [] = []
 listed_counters s (t ∷ l) =
     number t.kind ∷ number t.stat_len ∷ listed_form (value_in s (Statistics.data_in t)) (listed_counters s l)
 
-abbrev pub listed_statistics : List ℕ → StatsAnswer → Listed
-listed_statistics s a =
-    record {
-      refusal = a.refusal;
-      stop = a.stop;
-      tail = a.stop;
-      fields = number a.report.stats_count ∷ listed_counters s (take a.report.count a.report.counters);
-    }
+abbrev pub listed_statistics : List ℕ → Statistics.ReadStats → Listed
+listed_statistics s (Ok a) =
+    good a.stop a.stop (number a.report.stats_count ∷ listed_counters s (take a.report.count a.report.counters))
+listed_statistics s (Err r) = refused r (number 0 ∷ [])
 
 -- of each TLV below the count type, length and value
 abbrev pub listed_tlvs : List ℕ → List InitiationTlv → List (List ℕ)
 listed_tlvs s [] = []
 listed_tlvs s (t ∷ l) = number t.kind ∷ number t.info_len ∷ viewed s (Initiation.info_of t) ∷ listed_tlvs s l
 
-abbrev pub listed_initiation : List ℕ → InitiationAnswer → Listed
-listed_initiation s a =
-    record {
-      refusal = a.refusal;
-      stop = a.stop;
-      tail = a.tail;
-      fields = listed_tlvs s (take a.message.count a.message.tlvs);
-    }
+abbrev pub listed_initiation : List ℕ → Initiation.ReadInitiation → Listed
+listed_initiation s (Ok a) = good a.stop a.tail (listed_tlvs s (take a.message.count a.message.tlvs))
+listed_initiation s (Err r) = refused r []
 
 -- of each TLV below the count type, length, and the string's bytes or the reason's number
 abbrev pub listed_ending : List ℕ → TerminationTlvValue → ℕ → List (List ℕ) → List (List ℕ)
@@ -104,21 +98,16 @@ abbrev pub listed_endings : List ℕ → List TerminationTlv → List (List ℕ)
 listed_endings s [] = []
 listed_endings s (t ∷ l) = listed_ending s (Termination.value_of t) t.info_len (listed_endings s l)
 
-abbrev pub listed_termination : List ℕ → TerminationAnswer → Listed
-listed_termination s a =
-    record {
-      refusal = a.refusal;
-      stop = a.stop;
-      tail = a.tail;
-      fields = listed_endings s (take a.message.count a.message.tlvs);
-    }
+abbrev pub listed_termination : List ℕ → Termination.ReadTermination → Listed
+listed_termination s (Ok a) = good a.stop a.tail (listed_endings s (take a.message.count a.message.tlvs))
+listed_termination s (Err r) = refused r []
 
 -- the reason, whether there is data (1 or 0), and the data
 abbrev pub listed_data : Data → List (List ℕ)
 listed_data absent = number 0 ∷ []
 listed_data (present b) = number 1 ∷ b ∷ []
 
-abbrev pub listed_peer_down : List ℕ → PeerDownAnswer → Listed
+abbrev pub listed_peer_down : List ℕ → PeerDown.PeerDownAnswer → Listed
 listed_peer_down s a =
     record {
       refusal = PeerDown.refusal_of a;
@@ -136,14 +125,9 @@ abbrev pub listed_mirrored : List ℕ → List RouteMirroringTlv → List (List 
 listed_mirrored s [] = []
 listed_mirrored s (t ∷ l) = listed_value s (Mirroring.value_of t) t.info_len (listed_mirrored s l)
 
-abbrev pub listed_mirroring : List ℕ → RouteMirroringAnswer → Listed
-listed_mirroring s a =
-    record {
-      refusal = a.refusal;
-      stop = a.stop;
-      tail = a.stop;
-      fields = listed_mirrored s (take a.message.count a.message.tlvs);
-    }
+abbrev pub listed_mirroring : List ℕ → Mirroring.ReadMirroring → Listed
+listed_mirroring s (Ok a) = good a.stop a.stop (listed_mirrored s (take a.message.count a.message.tlvs))
+listed_mirroring s (Err r) = refused r []
 
 abbrev pub listed : Reader → List ℕ → Listed
 listed common s = listed_common (read_common_header s)

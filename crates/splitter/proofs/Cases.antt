@@ -7,18 +7,17 @@ use native.Mathlib.Omega.{arith}
 use borrow.Author.Tests.{ltb-true, ltb-false, eqb-true, eqb-false, le-ltb}
 use lib.Dec.{ltb, eqb}
 use lib.ListN.{length, length-append}
+use Rattle.std.specs.declared.result.Result.TheVariants.{Err}
 use Rattle.wire.specs.Number as Number
 use Rattle.wire.specs.Bytes.{num_at}
 use Rattle.wire.specs.Refusal.{refusal}
 use Rattle.wire.specs.declared.Refusal.{Refusal}
 use Rattle.wire.proofs.Waits.{by_number}
-use Rattle.common_header.specs.Fields.{parts_of, fields_of, read_fields}
+use Rattle.common_header.specs.Fields.{CommonFieldsAnswer, parts_of, fields_of, read_fields}
 use Rattle.common_header.specs.declared.CommonFields.{CommonFields}
-use Rattle.common_header.specs.declared.CommonFieldsAnswer.{CommonFieldsAnswer}
 use Rattle.common_header.proofs.Fields as Fields
-use Rattle.splitter.specs.Shown.{refusal_of}
+use Rattle.splitter.specs.Shown.{SplitAnswer, refusal_of}
 use Rattle.splitter.specs.Read.{judged, after_fields, split_of}
-use Rattle.splitter.specs.declared.SplitAnswer.{SplitAnswer}
 use Rattle.splitter.proofs.Laws.{Fitting, fitting_shown, Sized, bad_length, part, whole, sized}
 
 -- the length field and all three fields, where they are there
@@ -35,8 +34,8 @@ pub record Headed (s : List ℕ) : Type 0 where
 
 -- not all of the header is there, and what is may be the start of one; then the version; then the length decides
 pub data Case (s : List ℕ) : SplitAnswer → Type 0 where
-  early : {r : Refusal} → length s < 6 → (0 < length s → num_at 1 s 0 ≡ 3) → r.number ≡ Number.Cut → length s + r.missing ≤ 6 → Case s (SplitAnswer.Refused r)
-  other_version : 0 < length s → (num_at 1 s 0 ≡ 3 → ⊥) → Case s (SplitAnswer.Refused (refusal Number.BadVersion 0))
+  early : {r : Refusal} → length s < 6 → (0 < length s → num_at 1 s 0 ≡ 3) → r.number ≡ Number.Cut → length s + r.missing ≤ 6 → Case s (Err r)
+  other_version : 0 < length s → (num_at 1 s 0 ≡ 3 → ⊥) → Case s (Err (refusal Number.BadVersion 0))
   headed : {a : SplitAnswer} → Headed s → Sized (length s) (fields_in s) a → Case s a
 
 module _ (s : List ℕ) (short : length s ≤ Number.limit) where
@@ -44,7 +43,7 @@ module _ (s : List ℕ) (short : length s ≤ Number.limit) where
   by_fields : (a : CommonFieldsAnswer) → read_fields s ≡ a → split_of s ≡ after_fields (length s) a
   by_fields a e = rw (le-ltb Number.limit (length s) short) (ap (after_fields (length s)) e)
 
-  pub split_version : 0 < length s → (num_at 1 s 0 ≡ 3 → ⊥) → split_of s ≡ SplitAnswer.Refused (refusal Number.BadVersion 0)
+  pub split_version : 0 < length s → (num_at 1 s 0 ≡ 3 → ⊥) → split_of s ≡ Err (refusal Number.BadVersion 0)
   split_version one v = by_fields _ (Fields.other_version s (omega (arith, one)) v)
 
   -- a whole header: then the length decides

@@ -7,6 +7,7 @@ use borrow.Author.Tests.{ltb-true, ltb-false, le-ltb}
 use lib.Dec.{ltb}
 use lib.ListN.{length, take, drop, take-append-drop}
 use lib.Seq.{take_at, drop_at}
+use Rattle.std.specs.declared.result.Result.TheVariants.{Ok, Err}
 use Rattle.wire.specs.Number as Number
 use Rattle.wire.specs.Bytes.{pick}
 use Rattle.wire.specs.Refusal.{refusal, no_refusal, lacking, cut_at}
@@ -14,19 +15,16 @@ use Rattle.wire.specs.View.{view}
 use Rattle.wire.specs.declared.Refusal.{Refusal}
 use Rattle.wire.specs.declared.View.{View}
 use Rattle.wire.proofs.Refuses.{pick_in}
-use Rattle.wire.proofs.Waits.{said}
 use Rattle.common_header.specs.Grammar as Header
 use Rattle.common_header.specs.Fields as Fields
-use Rattle.common_header.specs.Read as HeaderRead
+use Rattle.common_header.specs.Fields.{CommonFieldsAnswer}
 use Rattle.common_header.specs.Shown.{header_from}
 use Rattle.common_header.specs.declared.CommonFields.{CommonFields}
-use Rattle.common_header.specs.declared.CommonFieldsAnswer.{CommonFieldsAnswer}
-use Rattle.common_header.specs.declared.CommonHeaderAnswer.{CommonHeaderAnswer}
 use Rattle.common_header.proofs.Promises.{kind_told}
 use Rattle.splitter.specs.Grammar.{Reading, header_of}
-use Rattle.splitter.specs.Shown.{handed_out, shown, refusal_of, message_of, fields_in, ByItsType}
+use Rattle.splitter.specs.Shown.{SplitAnswer, handed_out, shown, refusal_of, message_of, fields_in, ByItsType}
 use Rattle.splitter.specs.Read.{judged, after_fields}
-use Rattle.splitter.specs.declared.SplitAnswer.{SplitAnswer}
+use Rattle.splitter.specs.declared.Split.{Split}
 
 -- What is missing of the message is what is missing behind its header.
 pub missing_behind : (there n : ℕ) → 6 ≤ there → 6 ≤ n → cut_at there 6 (n - 6) ≡ lacking 6 (n - there)
@@ -51,8 +49,8 @@ pub data BadLength : Refusal → Type 0 where
 
 -- what the length of a whole header comes to: it is none that a message has; or not all bytes are there; or they are
 pub data Sized (there : ℕ) (f : CommonFields) : SplitAnswer → Type 0 where
-  bad_length : (r : Refusal) → BadLength r → ((any : ℕ) → judged any f ≡ SplitAnswer.Refused r) → Sized there f (SplitAnswer.Refused r)
-  part : 6 ≤ f.msg_len → f.msg_len ≤ Number.limit → there < f.msg_len → Sized there f (SplitAnswer.Refused (lacking 6 (f.msg_len - there)))
+  bad_length : (r : Refusal) → BadLength r → ((any : ℕ) → judged any f ≡ Err r) → Sized there f (Err r)
+  part : 6 ≤ f.msg_len → f.msg_len ≤ Number.limit → there < f.msg_len → Sized there f (Err (lacking 6 (f.msg_len - there)))
   whole : Fitting there f.msg_len → Sized there f (handed_out f (view 0 f.msg_len))
 
 pub sized : (there : ℕ) (f : CommonFields) → Sized there f (judged there f)
@@ -62,8 +60,8 @@ sized there f = go (ltb n 6) refl (ltb Number.limit n) refl (ltb there n) refl
     n = f.msg_len
 
     go : (a : Bool) → ltb n 6 ≡ a → (b : Bool) → ltb Number.limit n ≡ b → (c : Bool) → ltb there n ≡ c
-        → Sized there f (pick a (SplitAnswer.Refused (refusal Number.BadMessageLength 1)) (pick b (SplitAnswer.Refused (refusal Number.TooLong 1))
-        (pick c (SplitAnswer.Refused (lacking 6 (n - there))) (handed_out f (view 0 n)))))
+        → Sized there f (pick a (Err (refusal Number.BadMessageLength 1)) (pick b (Err (refusal Number.TooLong 1))
+        (pick c (Err (lacking 6 (n - there))) (handed_out f (view 0 n)))))
     go true ha b hb c hc = bad_length _ below_6 (λ any. rw ha)
     go false ha true hb c hc = bad_length _ above_limit (λ any. rw (ha, hb))
     go false ha false hb true hc = part (ltb-false n 6 ha) (ltb-false Number.limit n hb) (ltb-true there n hc)
@@ -83,8 +81,8 @@ judged_good there f e = go (judged there f) (sized there f) e
 
 -- a good answer comes from good fields
 pub fields_accepted : (there : ℕ) (a : CommonFieldsAnswer) → (refusal_of (after_fields there a)).number ≡ Number.Good → (Fields.refusal_of a).number ≡ Number.Good
-fields_accepted there (CommonFieldsAnswer.Good f) e = refl
-fields_accepted there (CommonFieldsAnswer.Refused r) e = e
+fields_accepted there (Ok f) e = refl
+fields_accepted there (Err r) e = e
 
 -- ---- what a message that is handed out says of itself, of a known type or skipped
 pub record HandsOut (f : CommonFields) (v : View) (a : SplitAnswer) : Type 0 where
@@ -110,19 +108,11 @@ hands_out f v =
     by_test false p q = q refl
 
 -- what holds of a message that is handed out and of one that is skipped holds of both
-pub handed_either : (P : SplitAnswer → Type 0) (f : CommonFields) (v : View) → P (SplitAnswer.Skipped f v) → P (SplitAnswer.Message (header_from f) v) → P (handed_out f v)
+pub handed_either : (P : SplitAnswer → Type 0) (f : CommonFields) (v : View) → P (Ok (Split.Skipped f v)) → P (Ok (Split.Message (header_from f) v)) → P (handed_out f v)
 handed_either P f v s m = pick_in P (ltb 6 f.kind) s m
 
 pub shown_good : (r : Reading) → (refusal_of (shown r)).number ≡ Number.Good
 shown_good r = ap (λ (x : Refusal). x.number) (hands_out (Fields.fields_of (header_of r)) (view 0 r.length)).is_good
-
--- as the code finds it: by what the common header says of the type
-abbrev pub by_header : CommonFields → View → CommonHeaderAnswer → SplitAnswer
-by_header f v (CommonHeaderAnswer.Good h stop) = SplitAnswer.Message h v
-by_header f v (CommonHeaderAnswer.Refused r) = SplitAnswer.Skipped f v
-
-pub by-header : (f : CommonFields) (v : View) → by_header f v (HeaderRead.judged f) ≡ handed_out f v
-by-header f v = said (by_header f v) (ltb 6 f.kind) refl refl
 
 -- ---- what follows the header, cut into body and rest
 abbrev pub cut-at : Header.Reading → Reading

@@ -17,14 +17,12 @@ use Rattle.wire.specs.Refuses.{Refuses}
 use Rattle.wire.specs.Waits.{Waits, MissingTells}
 use Rattle.wire.specs.Exactly.{Sound, Complete, Told, Unique}
 use Rattle.common_header.specs.Grammar as Header
-use Rattle.common_header.specs.Fields.{parts_of, fields_of, shown, read_fields, read_common_fields}
-use Rattle.common_header.specs.declared.CommonFieldsAnswer.{CommonFieldsAnswer}
+use Rattle.common_header.specs.Fields.{CommonFieldsAnswer, parts_of, fields_of, shown, read_fields, read_common_fields}
 use Rattle.common_header.proofs.Laws.{length_join}
 use Rattle.common_header.proofs.Promises.{fields_sound, fields_complete, fields_unique}
 use Rattle.splitter.specs.Grammar.{header_of, join, grammar}
-use Rattle.splitter.specs.Shown.{refusal_of, message_of, fields_in, ByItsType}
+use Rattle.splitter.specs.Shown.{SplitAnswer, refusal_of, message_of, fields_in, ByItsType}
 use Rattle.splitter.specs.Read.{after_fields, split_of, reader}
-use Rattle.splitter.specs.declared.SplitAnswer.{SplitAnswer}
 use Rattle.splitter.proofs.Laws.{Fitting, fitting_shown, judged_good, fields_accepted, hands_out, cut-at, header_cut, cut_header}
 use Rattle.splitter.proofs.Cases as Cases
 use Rattle.splitter.proofs.Told as ToldProofs

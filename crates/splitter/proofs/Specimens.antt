@@ -4,14 +4,15 @@ use mathlib.Core.List.{List, [], ◌∷◌, map}
 use mathlib.Core.Path.{◌≡◌, refl}
 use mathlib.Core.Bool.{Bool, true, false}
 use Rattle.wire.specs.Bytes.{value}
+use Rattle.std.specs.declared.result.Result.TheVariants.{Ok, Err}
 use Rattle.wire.specs.Number as Number
 use Rattle.wire.specs.Refusal.{refusal, no_refusal, lacking}
 use Rattle.wire.specs.declared.Refusal.{Refusal}
 use Rattle.common_header.specs.Shown.{type_of, kind_of}
 use Rattle.common_header.specs.Fields.{read_fields}
-use Rattle.splitter.specs.Shown.{refusal_of, stop_of, fields_in}
+use Rattle.splitter.specs.Shown.{SplitAnswer, refusal_of, stop_of, fields_in}
 use Rattle.splitter.specs.Read.{split_of}
-use Rattle.splitter.specs.declared.SplitAnswer.{SplitAnswer}
+use Rattle.splitter.specs.declared.Split.{Split}
 
 -- refusal, stop, type, and whether the message is skipped
 pub record Told : Type 0 where
@@ -21,9 +22,9 @@ pub record Told : Type 0 where
   pub skipped : Bool
 
 abbrev is_skipped : SplitAnswer → Bool
-is_skipped (SplitAnswer.Message h v) = false
-is_skipped (SplitAnswer.Skipped f v) = true
-is_skipped (SplitAnswer.Refused r) = false
+is_skipped (Ok (Split.Message h v)) = false
+is_skipped (Ok (Split.Skipped f v)) = true
+is_skipped (Err r) = false
 
 abbrev told : List ℕ → Told
 told s =

@@ -7,6 +7,7 @@ use native.Mathlib.Omega.{arith}
 use borrow.Author.Tests.{ltb-true, ltb-false, le-leb, lt-leb}
 use lib.Dec.{ltb}
 use lib.ListN.{length}
+use Rattle.std.specs.declared.result.Result.TheVariants.{Err}
 use Rattle.wire.specs.Number as Number
 use Rattle.wire.specs.Bytes.{pick, has, num_at}
 use Rattle.wire.specs.Refusal.{refusal, no_refusal, lacking, cut_at}
@@ -18,7 +19,6 @@ use Rattle.common_header.specs.Fields.{parts_of, fields_of}
 use Rattle.common_header.proofs.Waits.{judge_then, judged_then}
 use Rattle.splitter.specs.Shown.{handed_out, refusal_of}
 use Rattle.splitter.specs.Read.{after_fields, split_of, reader}
-use Rattle.splitter.specs.declared.SplitAnswer.{SplitAnswer}
 use Rattle.splitter.proofs.Laws.{missing_behind, hands_out}
 
 -- behind the header: its length, and then as many bytes as that says
@@ -41,7 +41,7 @@ reads s =
     f = fields_of (parts_of s)
 
     rest : 6 ≤ length s → 6 ≤ n → (b : Bool) → ltb (length s) n ≡ b
-        → refusal_of (pick b (SplitAnswer.Refused (lacking 6 (n - length s))) (handed_out f (view 0 n)))
+        → refusal_of (pick b (Err (lacking 6 (n - length s))) (handed_out f (view 0 n)))
         ≡ pick (has (n - 6) s 6) no_refusal (cut_at (length s) 6 (n - 6))
     rest six least true e =
         let few = ltb-true (length s) n e in

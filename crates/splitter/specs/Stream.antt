@@ -1,12 +1,13 @@
 -- The messages of a stream, which the splitter takes off it one after the other.
-use Rattle.std.specs.Prelude.{ℕ, List, ◌++◌}
+use Rattle.std.specs.Prelude.{ℕ, List, ◌++◌, Ok, Err}
 use Rattle.wire.specs.Parts.{join_all}
 use Rattle.wire.specs.View.{viewed}
 use Rattle.wire.specs.Walk.{Step, bad, item, Kit}
 use Rattle.common_header.specs.Shown.{fields_from}
 use Rattle.common_header.specs.declared.BmpCommonHeader.{BmpCommonHeader}
 use Rattle.common_header.specs.declared.CommonFields.{CommonFields}
-use Rattle.splitter.specs.declared.SplitAnswer.{SplitAnswer}
+use Rattle.splitter.specs.Shown.{SplitAnswer}
+use Rattle.splitter.specs.declared.Split.{Split}
 
 -- a message that was split off, with all of its bytes: of a known type with its common header, or skipped, with the fields of the header
 pub data Message : Type 0 where
@@ -30,9 +31,9 @@ joined l z = join_all (λ (m : Message) (r : List ℕ). bytes_of m ++ r) l z
 
 -- what the splitter's answer makes of the bytes s: a message at their front, or a fault
 abbrev pub as_step : List ℕ → SplitAnswer → Step Message
-as_step s (SplitAnswer.Message h v) = item (known h (viewed s v))
-as_step s (SplitAnswer.Skipped f v) = item (skipped f (viewed s v))
-as_step s (SplitAnswer.Refused r) = bad r
+as_step s (Ok (Split.Message h v)) = item (known h (viewed s v))
+as_step s (Ok (Split.Skipped f v)) = item (skipped f (viewed s v))
+as_step s (Err r) = bad r
 
 -- a walk over messages, by what stands at the front of some bytes; it fills no table
 abbrev pub messages_by : (List ℕ → Step Message) → Kit

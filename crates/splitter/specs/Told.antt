@@ -3,8 +3,7 @@ use Rattle.std.specs.Prelude.{ℕ, List, drop}
 use Rattle.wire.specs.Exactly.{Nothing}
 use Rattle.wire.specs.declared.View.{View}
 use Rattle.splitter.specs.Grammar.{Reading}
-use Rattle.splitter.specs.Shown.{message_of, fields_in}
-use Rattle.splitter.specs.declared.SplitAnswer.{SplitAnswer}
+use Rattle.splitter.specs.Shown.{SplitAnswer, message_of, fields_in}
 
 abbrev pub told : (View → List ℕ) → SplitAnswer → Nothing → List ℕ → Reading
 told look a x tail =

@@ -5,6 +5,7 @@ use mathlib.Core.Bool.{Bool, true, false}
 use Prim.Native.Nat.{ℕ, ◌-◌, ◌+◌, ◌<◌}
 use lib.ListN.{length, take, drop, length-drop, length-append}
 use lib.Seq.{length-take-le, take_at}
+use Rattle.std.specs.declared.result.Result.TheVariants.{Ok, Err}
 use Rattle.wire.specs.Number as Number
 use Rattle.wire.specs.Bytes.{Bytes, has}
 use Rattle.wire.specs.View.{view}
@@ -13,10 +14,9 @@ use Rattle.wire.proofs.Bytes.{bytes_take, bytes_drop}
 use Rattle.wire.proofs.Views.{viewed_part}
 use Rattle.wire.proofs.Determined.{determined}
 use Rattle.stats_data.specs.Grammar.{Value, value_bytes, GoodValue}
-use Rattle.stats_data.specs.Shown.{afi_of, safi_of, number_of, data_of, value_in, refusal_of, data_read}
+use Rattle.stats_data.specs.Shown.{afi_of, safi_of, number_of, data_of, ReadData, value_in, refusal_of, data_read}
 use Rattle.stats_data.specs.Read.{value_of, read_data}
 use Rattle.stats_data.specs.declared.StatsData.{StatsData}
-use Rattle.stats_data.specs.declared.ReadData.{ReadData}
 use Rattle.stats_data.proofs.Values.{value_back, value_forth, data_shown, value_seen}
 use native.Mathlib.Omega.{arith}
 use borrow.Author.Tests.{le-leb, lt-leb, leb-true}
@@ -27,7 +27,7 @@ pub record ShowsValue (size : ℕ) (s : List ℕ) (at : ℕ) (v : Value) : Type 
   pub is_good : GoodValue v
   pub long : length (value_bytes v) ≡ size
   pub there : take size (drop at s) ≡ value_bytes v
-  pub shown_so : read_data size s at ≡ ReadData.Good (afi_of v) (safi_of v) (number_of at v) (cursor (at + size))
+  pub shown_so : read_data size s at ≡ Ok (afi_of v, safi_of v, number_of at v, cursor (at + size))
 
 -- What is accepted is a good value of that many bytes, and the answer shows it.
 pub sound : (size : ℕ) (s : List ℕ) (at : ℕ) → Bytes s → (refusal_of (read_data size s at)).number ≡ Number.Good → (v : Value) × ShowsValue size s at v
@@ -55,11 +55,11 @@ complete v g s at r e =
       long = refl;
       there = there;
       shown_so =
-          rw (le-leb size (length s - at) (omega (arith, left))) (ap (λ (w : Value). ReadData.Good (afi_of w) (safi_of w) (number_of at w) (cursor (at + size))) value-is);
+          rw (le-leb size (length s - at) (omega (arith, left))) (ap (λ (w : Value). Ok (afi_of w, safi_of w, number_of at w, cursor (at + size))) value-is);
     }
 
 -- Where fewer bytes are left, the whole value is Cut at its start, with as many missing as it lacks.
-pub refuses_cut : (size : ℕ) (s : List ℕ) (at : ℕ) → length s - at < size → read_data size s at ≡ ReadData.Cut (cut_at (length s) at size)
+pub refuses_cut : (size : ℕ) (s : List ℕ) (at : ℕ) → length s - at < size → read_data size s at ≡ Err (cut_at (length s) at size)
 refuses_cut size s at h = rw (lt-leb size (length s - at) h)
 
 -- No bytes are those of two good values.

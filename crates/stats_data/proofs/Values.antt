@@ -8,6 +8,7 @@ use native.Mathlib.Nat.{add-zero, mod-eq_of_lt}
 use borrow.Author.Tests.{eqb-true, eqb-false, ne_eqb, leb-true, leb-false, le-leb, lt-leb}
 use lib.Dec.{eqb}
 use lib.ListN.{length, take, drop}
+use Rattle.std.specs.declared.result.Result.TheVariants.{Ok, Err}
 use Rattle.wire.specs.Bytes.{be, pick, has, num_at, Bytes}
 use Rattle.wire.specs.Refusal.{cut_at}
 use Rattle.cursor.specs.Read.{cursor}
@@ -16,10 +17,9 @@ use Rattle.wire.specs.declared.Refusal.{Refusal}
 use Rattle.cursor.specs.declared.Cursor.{Cursor}
 use Rattle.wire.proofs.Bytes.{value_be, num_lt, num_back, num_last, num_part}
 use Rattle.stats_data.specs.Grammar.{Value, counter, gauge, afi_safi_gauge, raw, value_bytes, GoodValue}
-use Rattle.stats_data.specs.Shown.{data_at, afi_of, safi_of, number_of, data_of, value_in}
+use Rattle.stats_data.specs.Shown.{ReadData, data_at, afi_of, safi_of, number_of, data_of, value_in}
 use Rattle.stats_data.specs.Read.{value_of, whole_data, read_data}
 use Rattle.stats_data.specs.declared.StatsData.TheVariants.{Counter, AfiSafiGauge}
-use Rattle.stats_data.specs.declared.ReadData.{ReadData}
 
 -- the form of a value, by its length
 pub data Form (size : ℕ) (b : List ℕ) : Value → Type 0 where
@@ -99,12 +99,12 @@ module _ (size : ℕ) (s : List ℕ) (at : ℕ) where
 -- ---- both answers of a value that is read at a place
 module _ (size : ℕ) (s : List ℕ) (at : ℕ) where
   pub data_good : (v : Value) → v ≡ value_of size (take size (drop at s)) → (afi safi n : ℕ) → size ≤ length s - at
-      → afi ≡ afi_of v → safi ≡ safi_of v → n ≡ number_of at v → ReadData.Good afi safi n (cursor (at + size)) ≡ read_data size s at
+      → afi ≡ afi_of v → safi ≡ safi_of v → n ≡ number_of at v → ◌≡◌ {A = ReadData} (Ok (afi, safi, n, cursor (at + size))) (read_data size s at)
   data_good v e afi safi n h p q r =
-      (λ i. ReadData.Good (p i) (q i) (r i) (cursor (at + size))) ∙ sym (rw (le-leb size (length s - at) h)) ∙ ap (whole_data size s at) e
+      (λ i. Ok (p i, q i, r i, cursor (at + size))) ∙ sym (rw (le-leb size (length s - at) h)) ∙ ap (whole_data size s at) e
 
-  pub data_cut : (r : Refusal) → length s - at < size → r ≡ cut_at (length s) at size → ReadData.Cut r ≡ read_data size s at
-  data_cut r h p = ap ReadData.Cut p ∙ sym (rw (lt-leb size (length s - at) h))
+  pub data_cut : (r : Refusal) → length s - at < size → r ≡ cut_at (length s) at size → ◌≡◌ {A = ReadData} (Err r) (read_data size s at)
+  data_cut r h p = (λ i. Err (p i)) ∙ sym (rw (lt-leb size (length s - at) h))
 
   -- and the other way
   pub record WasData (afi safi n : ℕ) (c : Cursor) : Type 0 where
@@ -114,26 +114,34 @@ module _ (size : ℕ) (s : List ℕ) (at : ℕ) where
     pub number_is : n ≡ number_of at (value_of size (take size (drop at s)))
     pub next : c.at ≡ at + size
 
-  pub was_data : (afi safi n : ℕ) (c : Cursor) → ReadData.Good afi safi n c ≡ read_data size s at → WasData afi safi n c
+  pub was_data : (afi safi n : ℕ) (c : Cursor) → ◌≡◌ {A = ReadData} (Ok (afi, safi, n, c)) (read_data size s at) → WasData afi safi n c
   was_data afi safi n c = go (has size s at) refl
     where
       v : Value
       v = value_of size (take size (drop at s))
 
       go : (x : Bool) → has size s at ≡ x
-          → ReadData.Good afi safi n c ≡ pick x (ReadData.Good (afi_of v) (safi_of v) (number_of at v) (cursor (at + size))) (ReadData.Cut (cut_at (length s) at size))
+          → ◌≡◌ {A = ReadData} (Ok (afi, safi, n, c)) (pick x (Ok (afi_of v, safi_of v, number_of at v, cursor (at + size))) (Err (cut_at (length s) at size)))
           → WasData afi safi n c
-      go true h q = record { left = leb-true size (length s - at) h; afi_is = cc; safi_is = cc; number_is = cc; next = cc }
+      go true h q =
+          let all : ◌≡◌ {A = ℕ × ℕ × ℕ × Cursor} (afi, safi, n, c) (afi_of v, safi_of v, number_of at v, cursor (at + size)) = cc in
+          record {
+            left = leb-true size (length s - at) h;
+            afi_is = ap (λ (d : ℕ × ℕ × ℕ × Cursor). d.0) all;
+            safi_is = ap (λ (d : ℕ × ℕ × ℕ × Cursor). d.1) all;
+            number_is = ap (λ (d : ℕ × ℕ × ℕ × Cursor). d.2) all;
+            next = ap (λ (d : ℕ × ℕ × ℕ × Cursor). d.3.at) all;
+          }
       go false h q = let z : ◌≡◌ {A = ℕ} 0 1 = cc in absurd (omega arith)
 
-  pub no_data : (r : Refusal) → ReadData.Cut r ≡ read_data size s at → (length s - at < size) × (r ≡ cut_at (length s) at size)
+  pub no_data : (r : Refusal) → ◌≡◌ {A = ReadData} (Err r) (read_data size s at) → (length s - at < size) × (r ≡ cut_at (length s) at size)
   no_data r = go (has size s at) refl
     where
       v : Value
       v = value_of size (take size (drop at s))
 
       go : (x : Bool) → has size s at ≡ x
-          → ReadData.Cut r ≡ pick x (ReadData.Good (afi_of v) (safi_of v) (number_of at v) (cursor (at + size))) (ReadData.Cut (cut_at (length s) at size))
+          → ◌≡◌ {A = ReadData} (Err r) (pick x (Ok (afi_of v, safi_of v, number_of at v, cursor (at + size))) (Err (cut_at (length s) at size)))
           → (length s - at < size) × (r ≡ cut_at (length s) at size)
       go true h q = let z : ◌≡◌ {A = ℕ} 0 1 = cc in absurd (omega arith)
       go false h q = (leb-false size (length s - at) h, cc)

@@ -1,5 +1,5 @@
 -- How a value is shown. Nothing here takes an input apart.
-use Rattle.std.specs.Prelude.{ℕ, ◌%◌, ◌^◌, List, eqb}
+use Rattle.std.specs.Prelude.{ℕ, ◌%◌, ◌^◌, List, eqb, Result, Ok, Err}
 use Rattle.wire.specs.Bytes.{pick}
 use Rattle.wire.specs.View.{view, viewed}
 use Rattle.wire.specs.declared.View.{View}
@@ -8,7 +8,6 @@ use Rattle.wire.specs.Refusal.{no_refusal}
 use Rattle.stats_data.specs.Grammar.{Value, counter, gauge, afi_safi_gauge, raw}
 use Rattle.stats_data.specs.declared.StatsData.{StatsData}
 use Rattle.stats_data.specs.declared.StatsData.TheVariants.{Counter, Gauge, AfiSafiGauge, Unknown}
-use Rattle.stats_data.specs.declared.ReadData.{ReadData}
 use Rattle.cursor.specs.Read.{cursor}
 use Rattle.cursor.specs.declared.Cursor.{Cursor}
 
@@ -58,15 +57,19 @@ told_value look (Unknown v) = raw (look v)
 abbrev pub value_in : List ℕ → StatsData → Value
 value_in b d = told_value (viewed b) d
 
+-- what the reader of a value answers: its numbers and the cursor past it, or that it is cut
+abbrev pub ReadData : Type 0
+ReadData = Result (ℕ × ℕ × ℕ × Cursor) Refusal
+
 -- what an answer says of a value of size bytes: its refusal, the data, and the cursor past it, all zero where it is Cut
 abbrev pub refusal_of : ReadData → Refusal
-refusal_of (ReadData.Good afi safi n c) = no_refusal
-refusal_of (ReadData.Cut r) = r
+refusal_of (Ok x) = no_refusal
+refusal_of (Err r) = r
 
 abbrev pub data_read : ℕ → ReadData → StatsData
-data_read size (ReadData.Good afi safi n c) = data_of size afi safi n
-data_read size (ReadData.Cut r) = Counter 0
+data_read size (Ok x) = data_of size x.0 x.1 x.2
+data_read size (Err r) = Counter 0
 
 abbrev pub next_of : ReadData → Cursor
-next_of (ReadData.Good afi safi n c) = c
-next_of (ReadData.Cut r) = cursor 0
+next_of (Ok x) = x.3
+next_of (Err r) = cursor 0

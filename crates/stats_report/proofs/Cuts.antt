@@ -16,9 +16,8 @@ use Rattle.wire.specs.Walk.{read_from}
 use Rattle.wire.specs.declared.Refusal.{Refusal}
 use Rattle.wire.proofs.Cuts.{CutsIn, cuts_in, pick_by, type_lacks, length_lacks, value_lacks, one_lacks, walk_cut, picked_other}
 use Rattle.stats_report.specs.Grammar.{put_stat, size_of, GoodStat}
-use Rattle.stats_report.specs.Shown.{refused_answer}
+use Rattle.stats_report.specs.Shown.{ReadStats, refused_answer, refusal_of}
 use Rattle.stats_report.specs.Read.{step, widths_in, kit, answer, read_stats}
-use Rattle.stats_report.specs.declared.StatsAnswer.{StatsAnswer}
 use Rattle.stats_report.proofs.Laws.{laws}
 
 cuts : (s : List ℕ) → CutsIn (widths_in s) (length s) (step s)
@@ -36,20 +35,20 @@ cuts s =
 abbrev CutIn : List ℕ → Refusal → Type 0
 CutIn s r = FirstLacking (4 ∷ []) 0 (length s) r ⊎ CutAfter put_stat GoodStat size_of widths_in 4 s r
 
-pub refuses_cut : (s : List ℕ) → Bytes s → (read_stats s).refusal.number ≡ Number.Cut
-    → FirstLacking (4 ∷ []) 0 (length s) (read_stats s).refusal ⊎ CutAfter put_stat GoodStat size_of widths_in 4 s (read_stats s).refusal
+pub refuses_cut : (s : List ℕ) → Bytes s → (refusal_of (read_stats s)).number ≡ Number.Cut
+    → FirstLacking (4 ∷ []) 0 (length s) (refusal_of (read_stats s)) ⊎ CutAfter put_stat GoodStat size_of widths_in 4 s (refusal_of (read_stats s))
 refuses_cut s p e =
-    let walked = picked_other (λ (a : StatsAnswer). a.refusal.number) (ltb Number.limit (length s)) Number.Cut (λ q. omega arith) e in
-    subst (λ (a : StatsAnswer). CutIn s a.refusal) (sym walked)
-    (go (has 4 s 0) refl (ap (λ (a : StatsAnswer). a.refusal.number) (sym walked) ∙ e))
+    let walked = picked_other (λ (a : ReadStats). (refusal_of a).number) (ltb Number.limit (length s)) Number.Cut (λ q. omega arith) e in
+    subst (λ (a : ReadStats). CutIn s (refusal_of a)) (sym walked)
+    (go (has 4 s 0) refl (ap (λ (a : ReadStats). (refusal_of a).number) (sym walked) ∙ e))
   where
     total : ℕ
     total = num_at 4 s 0
 
-    go : (b : Bool) → has 4 s 0 ≡ b → (pick b (answer total (read_from kit total 4 s)) (refused_answer (cut_at (length s) 0 4))).refusal.number ≡ Number.Cut
-        → CutIn s (pick b (answer total (read_from kit total 4 s)) (refused_answer (cut_at (length s) 0 4))).refusal
+    go : (b : Bool) → has 4 s 0 ≡ b → (refusal_of (pick b (answer total (read_from kit total 4 s)) (refused_answer (cut_at (length s) 0 4)))).number ≡ Number.Cut
+        → CutIn s (refusal_of (pick b (answer total (read_from kit total 4 s)) (refused_answer (cut_at (length s) 0 4))))
     go true h c =
         let long = leb-true 4 (length s - 0) h in
-        inr (walk_cut kit laws widths_in (λ z. cuts_in (widths_in z) (length z) (step z) (cuts z)) (λ (a : StatsAnswer). a.refusal) (answer total)
+        inr (walk_cut kit laws widths_in (λ z. cuts_in (widths_in z) (length z) (step z) (cuts z)) refusal_of (answer total)
         (λ n at table z. refl) (λ r. refl) total 4 s p (omega arith) c)
     go false h c = inl (one_lacks 0 4 (length s) (omega arith) (leb-false 4 (length s - 0) h))

@@ -26,8 +26,7 @@ use Rattle.stats_data.specs.declared.StatsData.{StatsData}
 use Rattle.stats_report.specs.Grammar.{Reading, join, Good, size_of, grammar, places, put_stat, GoodStat}
 use Rattle.stats_report.specs.Read.{kit, read_stats, reader, widths_in, answer}
 use Rattle.stats_report.specs.declared.StatCounter.{StatCounter}
-use Rattle.stats_report.specs.declared.StatsAnswer.{StatsAnswer}
-use Rattle.stats_report.specs.Shown.{data_in, refused_answer}
+use Rattle.stats_report.specs.Shown.{ReadStats, data_in, refused_answer, refusal_of}
 use Rattle.stats_report.proofs.Laws.{faults, never, laws, behind, counted}
 use Rattle.stats_report.proofs.Shows.{shows_of, count_of, ViewAt, view_at}
 use Rattle.stats_report.proofs.Told as ToldProofs
@@ -41,7 +40,7 @@ pub sound : Sound reader
 sound s p e = go (ltb Number.limit (length s)) refl (has 4 s 0) refl (read_from kit (num_at 4 s 0) 4 s) refl e
   where
     go : (b : Bool) → ltb Number.limit (length s) ≡ b → (d : Bool) → has 4 s 0 ≡ d → (o : Out StatCounter) → read_from kit (num_at 4 s 0) 4 s ≡ o
-        → (read_stats s).refusal.number ≡ Number.Good → (r : Reading) × Shows reader s r
+        → (refusal_of (read_stats s)).number ≡ Number.Good → (r : Reading) × Shows reader s r
     go true h d j o k e = let q : ◌≡◌ {A = ℕ} 1 0 = (rw h at e) in absurd (omega arith)
     go false h false j o k e = let q : ◌≡◌ {A = ℕ} 2 0 = (rw (h, j) at e) in absurd (omega arith)
     go false h true j (refused r) k e =
@@ -109,8 +108,8 @@ unfolding be
 views r g = each_at kit laws (ViewAt (join r)) (join r) (view_at (join r)) r.stats r.tail 4 g.each refl
 
 -- A Cut is at the first part that is not whole, with as many missing as it lacks: the count, or a part of a record behind records that are.
-pub refuses_cut : (s : List ℕ) → Bytes s → (read_stats s).refusal.number ≡ Number.Cut
-    → FirstLacking (4 ∷ []) 0 (length s) (read_stats s).refusal ⊎ CutAfter put_stat GoodStat size_of widths_in 4 s (read_stats s).refusal
+pub refuses_cut : (s : List ℕ) → Bytes s → (refusal_of (read_stats s)).number ≡ Number.Cut
+    → FirstLacking (4 ∷ []) 0 (length s) (refusal_of (read_stats s)) ⊎ CutAfter put_stat GoodStat size_of widths_in 4 s (refusal_of (read_stats s))
 refuses_cut = Cuts.refuses_cut
 
 -- ---- any two answers that the contracts allow are equal
@@ -123,5 +122,5 @@ pub stat_data_determined : (c : StatCounter) (r q : StatsData) → r ≡ data_in
 stat_data_determined c r q = determined
 
 -- Two answers of the reader to the same bytes are equal.
-pub parse_determined : (s : List ℕ) (a b : StatsAnswer) → a ≡ read_stats s → b ≡ read_stats s → a ≡ b
+pub parse_determined : (s : List ℕ) (a b : ReadStats) → a ≡ read_stats s → b ≡ read_stats s → a ≡ b
 parse_determined s a b = determined

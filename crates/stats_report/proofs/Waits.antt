@@ -11,14 +11,13 @@ use Rattle.wire.specs.Bytes.{pick, has, num_at}
 use Rattle.wire.specs.Refusal.{refusal}
 use Rattle.wire.specs.Walk.{read_from}
 use Rattle.wire.specs.Waits.{Never, Waits, MissingTells}
-use Rattle.wire.specs.declared.Refusal.{Refusal}
 use Rattle.wire.proofs.Cuts.{pick_by}
 use Rattle.wire.proofs.Refuses.{pick_in}
 use Rattle.wire.proofs.Waits.{Judge, by_number, part_more, cut_tells, said, given, need, ask, waits_by, tells_by}
 use Rattle.wire.proofs.WalkWaits.{Past, Lacks, lacks, StepWaited, whole, step_need, num_more, StepTells, walk_said, StepsWait, walk_on}
 use Rattle.stats_report.specs.Grammar.{size_of}
 use Rattle.stats_report.specs.Read.{step, kit, answer, read_stats, reader}
-use Rattle.stats_report.specs.declared.StatsAnswer.{StatsAnswer}
+use Rattle.stats_report.specs.Shown.{refusal_of}
 use Rattle.stats_report.proofs.Laws.{takes}
 
 -- type and length are asked for by how many bytes there are in all
@@ -58,10 +57,9 @@ wait = record { takes = takes; steps = steps; tells = told }
 judged : Judge Never 0 0
 judged = ask 4 (given (λ s. num_at 4 s 0) (by_number 4 0 (omega arith) (λ n. n)) (λ n. walk_on kit wait (λ s. n) (λ s t. omega arith)))
 
-reads : (s : List ℕ) → (read_stats s).refusal ≡ pick (ltb Number.limit (length s)) (refusal Number.TooLong 0) (judged.judge s)
+reads : (s : List ℕ) → refusal_of (read_stats s) ≡ pick (ltb Number.limit (length s)) (refusal Number.TooLong 0) (judged.judge s)
 unfolding judged ask need given walk_on
 reads s =
-    let refusal_of : StatsAnswer → Refusal = λ a. a.refusal in
     said refusal_of (ltb Number.limit (length s)) refl
     (said refusal_of (has 4 s 0) (walk_said refusal_of (answer (num_at 4 s 0)) (λ n at table z. refl) (λ r. refl) (read_from kit (num_at 4 s 0) 4 s)) refl)
 

@@ -1,5 +1,5 @@
 -- How a reading is shown in the answer. Nothing here takes an input apart.
-use Rattle.std.specs.Prelude.{ℕ, ◌+◌, ◌-◌, List, ◌++◌, length, replicate}
+use Rattle.std.specs.Prelude.{ℕ, ◌+◌, ◌-◌, List, ◌++◌, length, replicate, Result, Ok, Err}
 use Rattle.wire.specs.Refusal.{no_refusal}
 use Rattle.wire.specs.Parts.{shown_from, end_from}
 use Rattle.wire.specs.declared.Refusal.{Refusal}
@@ -16,9 +16,6 @@ counter_of kind size afi safi value = record { kind = kind; stat_len = size; afi
 abbrev pub zero_counter : StatCounter
 zero_counter = counter_of 0 0 0 0 0
 
-unfoldable pub zero_table : List StatCounter
-zero_table = replicate places zero_counter
-
 -- a record as the table shows it, where it starts at a place
 abbrev pub entry : ℕ → Stat → StatCounter
 entry at t = counter_of t.kind t.size (afi_of t.value) (safi_of t.value) (number_of (at + 4) t.value)
@@ -27,15 +24,27 @@ entry at t = counter_of t.kind t.size (afi_of t.value) (safi_of t.value) (number
 abbrev pub data_in : StatCounter → StatsData
 data_in c = data_of c.stat_len c.afi c.safi c.value
 
-abbrev pub good_answer : ℕ → ℕ → ℕ → List StatCounter → StatsAnswer
-good_answer total count end table =
-    record { refusal = no_refusal; stop = end; report = record { counters = table; count = count; stats_count = total } }
+-- what the reader answers
+abbrev pub ReadStats : Type 0
+ReadStats = Result StatsAnswer Refusal
 
-abbrev pub refused_answer : Refusal → StatsAnswer
-refused_answer r = record { refusal = r; stop = 0; report = record { counters = zero_table; count = 0; stats_count = 0 } }
+abbrev pub good_answer : ℕ → ℕ → ℕ → List StatCounter → ReadStats
+good_answer total count end table = Ok (record { stop = end; report = record { counters = table; count = count; stats_count = total } })
+
+abbrev pub refused_answer : Refusal → ReadStats
+refused_answer r = Err r
+
+-- what an answer says of its refusal and of where the tail starts, zero where it refuses
+abbrev pub refusal_of : ReadStats → Refusal
+refusal_of (Ok a) = no_refusal
+refusal_of (Err r) = r
+
+abbrev pub stop_of : ReadStats → ℕ
+stop_of (Ok a) = a.stop
+stop_of (Err r) = 0
 
 -- the good answer: the records in order, entries past the count zero, the stop where the last record ends
-abbrev pub shown : Reading → StatsAnswer
+abbrev pub shown : Reading → ReadStats
 shown r =
     good_answer r.count (length r.stats) (end_from size_of 4 r.stats)
     (shown_from size_of entry 4 r.stats ++ replicate (places - length r.stats) zero_counter)

@@ -3,13 +3,14 @@
 
 ghost use Rattle.std.specs.Prelude.{◌≡◌};
 ghost use Rattle.stats_type.specs.Shown.{type_of};
-ghost use Rattle.stats_report.specs.Shown.{counter_of, data_in, refused_answer};
-ghost use Rattle.stats_report.specs.Read.{refusal_in, count_of, head_cut, step_at, read_stats};
+ghost use Rattle.stats_report.specs.Grammar.{Stat, size_of};
+ghost use Rattle.stats_report.specs.Shown.{data_in, entry, zero_counter};
+ghost use Rattle.stats_report.specs.Read.{count_of, head_cut, step, stop_at, read_stats};
 
-use cursor::{Cursor, ReadU32};
-use stats_data::{ReadData, StatsData};
+use cursor::Cursor;
+use stats_data::StatsData;
 use stats_type::StatType;
-use tlv_head::TlvHead;
+use walk::{Entry, Step};
 use wire::Refusal;
 
 // How many counters the table of a report holds.
@@ -37,34 +38,8 @@ pub struct StatCounter {
 // The stop is where the last counter ends, and the tail starts.
 #[derive(Clone, Copy)]
 pub struct StatsAnswer {
-    pub refusal: Refusal,
     pub stop: usize,
     pub report: StatsReport,
-}
-
-// The count in front of the records and the cursor behind it, or why there is none.
-#[derive(Clone, Copy)]
-enum Count {
-    Said(u32, Cursor),
-    Refused(Refusal),
-}
-
-// What stands at a place of the walk: a field that lacks bytes, or the five numbers of a counter and the cursor past it.
-#[derive(Clone, Copy)]
-enum Step {
-    Bad(Refusal),
-    Whole(u16, u16, u16, u16, u64, Cursor),
-}
-
-impl Count {
-    fn refusal(self) -> Refusal
-        ensures { result ≡ refusal_in self }
-    {
-        match self {
-            Count::Said(_, _) => wire::no_refusal(),
-            Count::Refused(refusal) => refusal,
-        }
-    }
 }
 
 impl StatCounter {
@@ -83,70 +58,70 @@ impl StatCounter {
     }
 }
 
-// Reads the body: the count, as many records as it says, and a tail that is left. The walk stands in this function, so that its table
-// is handed back once.
-pub fn parse_stats_report(s: &[u8]) -> StatsAnswer
+// Reads the body: the count, as many records as it says, and a tail that is left.
+pub fn parse_stats_report(s: &[u8]) -> Result<StatsAnswer, Refusal>
     ensures { result ≡ read_stats s.now }
 {
-    let counted = read_count(s);
-    let Count::Said(stats_count, behind) = counted else {
-        return refused(counted.refusal());
+    let (stats_count, behind) = read_count(s)?;
+    let none = StatCounter {
+        kind: 0,
+        stat_len: 0,
+        afi: 0,
+        safi: 0,
+        value: 0,
     };
-    let zero = counter_of(0, 0, 0, 0, 0);
-    let mut counters = [zero; COUNTER_PLACES];
-    let mut count: usize = 0;
-    let mut at = behind.at;
-    let stop = loop {
-        if (stats_count as usize) <= count {
-            break at;
-        }
-        match step_at(s, at) {
-            Step::Bad(refusal) => return refused(refusal),
-            Step::Whole(kind, size, afi, safi, value, next) => {
-                if COUNTER_PLACES <= count {
-                    return refused(wire::refusal_at(wire::TOO_MANY, at));
-                }
-                counters[count] = counter_of(kind, size, afi, safi, value);
-                count += 1;
-                at = next.at;
-            }
-        }
-    };
-    StatsAnswer {
-        refusal: wire::no_refusal(),
-        stop: stop,
+    let mut counters = [none; COUNTER_PLACES];
+    let walked = walk::walk(s, behind.at, stats_count as usize, &mut counters)?;
+    Ok(StatsAnswer {
+        stop: walked.end,
         report: StatsReport {
-            counters: counters,
-            count: count,
-            stats_count: stats_count,
+            counters,
+            count: walked.count,
+            stats_count,
         },
+    })
+}
+
+impl Entry for StatCounter {
+    ghost Item = { Stat };
+
+    ghost step = { step };
+
+    ghost size = { size_of };
+
+    ghost entry = { entry };
+
+    ghost none = { zero_counter };
+
+    ghost stop_at = { stop_at };
+
+    // The record that stands at a place, or the field that lacks bytes: the walk does not stop before the count.
+    #[tactic(auto, using(crate::proofs::Steps::answers))]
+    fn step_at(s: &[u8], at: usize) -> Result<Step<StatCounter>, Refusal> {
+        let Some(head) = tlv_head::read_head(Cursor { at }, s, 0) else {
+            return Err(head_cut(s, at));
+        };
+        let (afi, safi, value, next) = stats_data::read_data(s, head.value, head.length)?;
+        let counter = StatCounter {
+            kind: head.kind,
+            stat_len: head.length,
+            afi,
+            safi,
+            value,
+        };
+        Ok(Step::Whole(counter, next))
     }
 }
 
-fn read_count(s: &[u8]) -> Count
+// The count in front of the records, and the cursor behind it.
+fn read_count(s: &[u8]) -> Result<(u32, Cursor), Refusal>
     ensures { result ≡ count_of s.now }
 {
     if wire::LIMIT < s.len() {
-        return Count::Refused(wire::refusal_at(wire::TOO_LONG, 0));
+        return Err(wire::refusal_at(wire::TOO_LONG, 0));
     }
     let start = Cursor { at: 0 };
-    match start.read_u32(s) {
-        ReadU32::Cut(refusal) => Count::Refused(refusal),
-        ReadU32::Good(stats_count, behind) => Count::Said(stats_count, behind),
-    }
-}
-
-fn step_at(s: &[u8], at: usize) -> Step
-    ensures { result ≡ step_at s.now at }
-{
-    let start = Cursor { at: at };
-    let TlvHead::Found(kind, size, behind) = tlv_head::read_head(start, s, 0) else {
-        return Step::Bad(head_cut(s, at));
-    };
-    match stats_data::read_data(s, behind, size) {
-        ReadData::Cut(refusal) => Step::Bad(refusal),
-        ReadData::Good(afi, safi, value, next) => Step::Whole(kind, size, afi, safi, value, next),
-    }
+    start.read::<u32>(s)
 }
 
 // The type and the length are two fields, each Cut at its own place.
@@ -155,31 +130,4 @@ fn head_cut(s: &[u8], at: usize) -> Refusal
 {
     let widths = [2usize, 2];
     layout::cut_in(&widths, at, s.len())
-}
-
-fn counter_of(kind: u16, stat_len: u16, afi: u16, safi: u16, value: u64) -> StatCounter
-    ensures { result ≡ counter_of kind stat_len afi safi value }
-{
-    StatCounter {
-        kind: kind,
-        stat_len: stat_len,
-        afi: afi,
-        safi: safi,
-        value: value,
-    }
-}
-
-fn refused(refusal: Refusal) -> StatsAnswer
-    ensures { result ≡ refused_answer refusal }
-{
-    let zero = counter_of(0, 0, 0, 0, 0);
-    StatsAnswer {
-        refusal: refusal,
-        stop: 0,
-        report: StatsReport {
-            counters: [zero; COUNTER_PLACES],
-            count: 0,
-            stats_count: 0,
-        },
-    }
 }

@@ -13,17 +13,12 @@ use Rattle.wire.specs.Tlv as Wire
 use Rattle.wire.specs.Tlv.{put_tlv, GoodTlv, Tail, short, oversized, put_tail}
 use Rattle.wire.specs.TlvAt.{tail_of}
 use Rattle.wire.specs.Walk.{item}
-use Rattle.wire.specs.declared.Refusal.{Refusal}
-use Rattle.cursor.specs.declared.Cursor.{Cursor}
 use Rattle.wire.proofs.Bytes.{value_be, num_lt}
 use Rattle.wire.proofs.Tlv.{tlv_there, tlv_join, tlv_rest, tlv_parts, tail_none, tail_join, tail_parts, coded_join, coded_length, coded_rest, coded_parts}
-use Rattle.wire.proofs.Walk.{Takes, Faults, Laws, Tails, TurnTo, turn_to, onwards_bad, onwards}
+use Rattle.wire.proofs.Walk.{Takes, Faults, Laws, Tails}
 use Rattle.termination_message.specs.Grammar.{Tlv, string, reason, put, size_of, ReadTlv, TypeKnown, ReadTail}
-use Rattle.termination_message.specs.Shown.{refused_answer}
-use Rattle.termination_message.specs.Read.{step, step_at, kit, answer}
-use Rattle.termination_message.specs.declared.TerminationTlv.{TerminationTlv}
-use Rattle.termination_message.specs.declared.Step.TheVariants.{Bad, Whole}
-use Rattle.termination_message.proofs.Steps.{Begun, none, text, known, of, stopped, faulty, by_item, was_bad, was_whole}
+use Rattle.termination_message.specs.Read.{step, kit}
+use Rattle.termination_message.proofs.Steps.{Begun, none, text, known, of, stopped, faulty, by_item}
 
 pub faults : Faults kit
 faults = faulty
@@ -87,16 +82,3 @@ tails =
           (record { well_formed = t.0; type-known = type_of_tail z h.1 }, t.1);
       ends = λ t g. (of (put_tail t) (none (tail_none t g.well_formed) (type_in_tail t g)), tail_join t g.well_formed);
     }
-
--- ---- a turn of the reader's loop that finds a fault, and one that finds a TLV
-module _ (n at : ℕ) (table : List TerminationTlv) (s : List ℕ) (few : n ≤ at) (h : at ≤ length s) where
-  pub amiss : (r : Refusal) → step_at s at ≡ Bad r → answer (onwards kit n at table s) ≡ refused_answer r
-  amiss r e =
-      let w = was_bad at r (drop at s) e in
-      ap answer (onwards_bad kit tails.nil n at table s w.0 few w.1) ∙ ap refused_answer w.2
-
-  pub onward : (kind size number : ℕ) (c : Cursor) → step_at s at ≡ Whole kind size number c
-      → TurnTo kit takes n at table s (record { kind = kind; info_len = size; number = number }) c.at
-  onward kind size number c e =
-      let w = was_whole at kind size number c (drop at s) e in
-      turn_to kit takes n at table s w.0 _ c.at few h w.1 w.2 w.3

@@ -21,14 +21,13 @@ use Rattle.wire.specs.Lacking.{CutAfter}
 use Rattle.wire.proofs.Tlv.{stop_behind}
 use Rattle.wire.proofs.Cuts.{cuts_in, body_cut}
 use Rattle.termination_message.specs.Grammar.{size_of, Reading, join, Good, grammar, places, put, ReadTlv}
-use Rattle.termination_message.specs.Shown.{type_of, reason_of, code_of, value_of, refused_answer, shown}
+use Rattle.termination_message.specs.Shown.{type_of, reason_of, code_of, value_of, ReadTermination, refused_answer, refusal_of, stop_of, shown}
 use Rattle.termination_message.specs.Read.{kit, read_termination, reader, answer, widths_in, step}
 use Rattle.termination_message.specs.declared.TerminationReason.{TerminationReason}
 use Rattle.termination_message.specs.declared.TerminationReason.TheVariants.{AdministrativelyClosed, UnspecifiedReason, OutOfResources, RedundantConnection, PermanentlyAdministrativelyClosed}
 use Rattle.termination_message.specs.declared.TerminationTlv.{TerminationTlv}
 use Rattle.termination_message.specs.declared.TerminationTlvType.{TerminationTlvType}
 use Rattle.termination_message.specs.declared.TerminationTlvValue.{TerminationTlvValue}
-use Rattle.termination_message.specs.declared.TerminationAnswer.{TerminationAnswer}
 use Rattle.termination_message.proofs.Laws.{faults, laws, tails}
 use Rattle.termination_message.proofs.Shows.{shows_of, ValueAt, code_told, value_at}
 use Rattle.termination_message.proofs.Told as ToldProofs
@@ -39,8 +38,8 @@ use Rattle.termination_message.proofs.Cuts.{cuts}
 -- What the reader accepts has a good reading that fits, and it shows that reading.
 pub sound : Sound reader
 sound s p e =
-    let n = not_too_long (λ (a : TerminationAnswer). a.refusal.number) _ _ (length s) refl e in
-    let a = read_accepted kit laws tails (λ (x : TerminationAnswer). x.refusal.number) answer faults (λ r. refl) 0 s p n.1 in
+    let n = not_too_long (λ (a : ReadTermination). (refusal_of a).number) _ _ (length s) refl e in
+    let a = read_accepted kit laws tails (λ (x : ReadTermination). (refusal_of x).number) answer faults (λ r. refl) 0 s p n.1 in
     (record { tlvs = a.0; tail = a.1 }, shows_of s n.0 a.0 a.1 a.2)
 
 -- Every good reading that fits is accepted, and shown.
@@ -72,7 +71,7 @@ too_many r g h many =
     (ap answer (read_too_many kit laws tails 0 (join r) r.tlvs r.tail g.each g.tail_good refl many))
 
 -- What follows the stop is the tail, or what is there of the value of an oversized TLV.
-pub stop_told : (r : Reading) → Good r → drop (shown r).stop (join r) ≡ unread r.tail
+pub stop_told : (r : Reading) → Good r → drop (stop_of (shown r)) (join r) ≡ unread r.tail
 stop_told r g = stop_behind (join r) _ r.tail (tail_behind kit laws (join r) r.tlvs (put_tail r.tail) 0 g.each refl)
 
 -- No input has two readings, whatever the table holds.
@@ -98,7 +97,7 @@ code_reason RedundantConnection = refl
 code_reason PermanentlyAdministrativelyClosed = refl
 
 -- A Cut is at the first part that is not whole, behind TLVs that are, with as many missing as it lacks.
-pub refuses_cut : (s : List ℕ) → Bytes s → (read_termination s).refusal.number ≡ Number.Cut → CutAfter put ReadTlv size_of widths_in 0 s (read_termination s).refusal
+pub refuses_cut : (s : List ℕ) → Bytes s → (refusal_of (read_termination s)).number ≡ Number.Cut → CutAfter put ReadTlv size_of widths_in 0 s (refusal_of (read_termination s))
 refuses_cut =
     body_cut kit laws widths_in (λ z. cuts_in (widths_in z) (length z) (step z) (cuts z)) reader _ answer (λ s. refl) refl
     (λ n at table z. refl) (λ r. refl)
@@ -117,5 +116,5 @@ pub info_type_determined : (x : TerminationTlvValue) (r q : TerminationTlvType) 
 info_type_determined x r q = determined
 
 -- Two answers of the reader to the same bytes are equal.
-pub parse_determined : (s : List ℕ) (a b : TerminationAnswer) → a ≡ read_termination s → b ≡ read_termination s → a ≡ b
+pub parse_determined : (s : List ℕ) (a b : ReadTermination) → a ≡ read_termination s → b ≡ read_termination s → a ≡ b
 parse_determined s a b = determined

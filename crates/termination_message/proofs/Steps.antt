@@ -1,29 +1,36 @@
--- One step of the walk by its cases; what `step_at` answers in each, and what its answer says of the step. Assumes nothing.
+-- One step of the walk by its cases; what it says of the bytes, and what `step_at` answers in each. Assumes nothing.
 use mathlib.Core.Path.{◌≡◌, refl, sym, ap, ◌∙◌, subst}
 use mathlib.Core.List.{List}
 use mathlib.Core.Logic.{inl, inr}
 use mathlib.Core.Bool.{Bool, true, false}
 use Prim.Native.Nat.{ℕ, ◌+◌, ◌-◌, ◌≤◌, ◌<◌}
 use native.Mathlib.Omega.{arith}
+use Rattle.std.proofs.Common.{◌≢◌}
 use native.Mathlib.Nat.{add-zero}
 use borrow.Author.Tests.{lt-leb, le-leb, lt-ltb, le-ltb, leb-true, leb-false, ltb-true, ltb-false, eqb-true, eqb-false}
 use lib.Dec.{leb, ltb, eqb}
 use lib.ListN.{length, drop, length-drop}
+use Rattle.std.specs.declared.result.Result.TheVariants.{Ok, Err}
 use Rattle.wire.specs.Number as Number
 use Rattle.wire.specs.Bytes.{pick, num_at}
 use Rattle.wire.specs.Refusal.{refusal, cut_at}
-use Rattle.cursor.specs.Read.{cursor}
-use Rattle.wire.specs.TlvAt.{tail_of, stop_at}
+use Rattle.cursor.specs.Read.{cursor, read}
 use Rattle.wire.specs.Walk as Walk
-use Rattle.wire.specs.Walk.{stop, bad, item, from}
+use Rattle.wire.specs.Walk.{stop, bad, item}
 use Rattle.wire.specs.declared.Refusal.{Refusal}
 use Rattle.cursor.specs.declared.Cursor.{Cursor}
 use Rattle.wire.proofs.Needs.{cut_from}
 use Rattle.wire.proofs.Tlv.{NoTlv}
-use Rattle.termination_message.specs.Grammar.{Tlv, string, reason, size_of}
+use Rattle.std.specs.declared.option.Option.TheVariants.{Some, None}
+use Rattle.cursor.proofs.Reading.{was_got, was_cut, was_in}
+use Rattle.tlv_head.specs.Head.{head_at}
+use Rattle.tlv_head.specs.declared.TlvHead.{TlvHead}
+use Rattle.tlv_head.proofs.Heads.{Head, was_found, was_short}
+use Rattle.termination_message.specs.Grammar.{Tlv, size_of}
 use Rattle.termination_message.specs.Shown.{entry}
-use Rattle.termination_message.specs.Read.{string_in, reason_in, step, as_step, step_at}
-use Rattle.termination_message.specs.declared.Step.TheVariants.{Stop, Bad, Whole}
+use Rattle.termination_message.specs.Read.{string_in, reason_in, step, stop_behind, StepAnswer, step_at}
+use Rattle.walk.specs.Walk.{step_of}
+use Rattle.walk.specs.declared.Step.TheVariants.{Stop, Whole}
 
 -- bytes that begin with a TLV of this type, whose length does not exceed what follows it
 pub record Begun (s : List ℕ) (kind : ℕ) : Type 0 where
@@ -89,16 +96,13 @@ of s (known b l m) = begun_step s 1 (omega arith) b ∙ rw (le-ltb (length s - 4
 pub stopped : (s : List ℕ) → step s ≡ stop → NoTlv s × (4 < length s → num_at 2 s 0 ≤ 1)
 stopped s e = go (see s) e
   where
-    no : {r : Refusal} → ◌≡◌ {A = Walk.Step Tlv} (bad r) stop → NoTlv s × (4 < length s → num_at 2 s 0 ≤ 1)
-    no q = let z : ◌≡◌ {A = ℕ} 0 1 = cc in absurd (omega arith)
-
     go : {x : Walk.Step Tlv} → Seen s x → x ≡ stop → NoTlv s × (4 < length s → num_at 2 s 0 ≤ 1)
     go (none h k) q = (h, k)
-    go (strange h k) q = no q
-    go (text b) q = let z : ◌≡◌ {A = ℕ} 0 1 = cc in absurd (omega arith)
-    go (lacking b l) q = no q
-    go (unknown b l m) q = no q
-    go (known b l m) q = let z : ◌≡◌ {A = ℕ} 0 1 = cc in absurd (omega arith)
+    go (strange h k) q = absurd cc
+    go (text b) q = absurd cc
+    go (lacking b l) q = absurd cc
+    go (unknown b l m) q = absurd cc
+    go (known b l m) q = absurd cc
 
 pub faulty : (s : List ℕ) (r : Refusal) → step s ≡ bad r → 0 < r.number
 faulty s r e = go (see s) e
@@ -107,104 +111,85 @@ faulty s r e = go (see s) e
     some d h q = let y : d ≡ r = cc in subst (λ (j : Refusal). 0 < j.number) y h
 
     go : {x : Walk.Step Tlv} → Seen s x → x ≡ bad r → 0 < r.number
-    go (none h k) q = let z : ◌≡◌ {A = ℕ} 0 1 = cc in absurd (omega arith)
+    go (none h k) q = absurd cc
     go (strange h k) q = some _ (omega arith) q
-    go (text b) q = let z : ◌≡◌ {A = ℕ} 0 1 = cc in absurd (omega arith)
+    go (text b) q = absurd cc
     go (lacking b l) q = some _ (omega arith) q
     go (unknown b l m) q = some _ (omega arith) q
-    go (known b l m) q = let z : ◌≡◌ {A = ℕ} 0 1 = cc in absurd (omega arith)
+    go (known b l m) q = absurd cc
 
 -- what holds of a String and of a Reason that the step finds holds of the TLV that it found
 pub by_item : (s : List ℕ) (P : Tlv → Type 0) → (Begun s 0 → P (string_in s)) → (Begun s 1 → 2 ≤ length s - 4 → num_at 2 s 4 ≤ 4 → P (reason_in s))
     → (t : Tlv) → step s ≡ item t → P t
 by_item s P f g t e = go (see s) e
   where
-    no : {r : Refusal} → bad r ≡ item t → P t
-    no q = let z : ◌≡◌ {A = ℕ} 0 1 = cc in absurd (omega arith)
-
     go : {x : Walk.Step Tlv} → Seen s x → x ≡ item t → P t
-    go (none h k) q = let z : ◌≡◌ {A = ℕ} 0 1 = cc in absurd (omega arith)
-    go (strange h k) q = no q
+    go (none h k) q = absurd cc
+    go (strange h k) q = absurd cc
     go (text b) q = let y : string_in s ≡ t = cc in subst P y (f b)
-    go (lacking b l) q = no q
-    go (unknown b l m) q = no q
+    go (lacking b l) q = absurd cc
+    go (unknown b l m) q = absurd cc
     go (known b l m) q = let y : reason_in s ≡ t = cc in subst P y (g b l m)
 
--- ---- each answer of `step_at`
+-- ---- each answer of `step_at`, by the head and the number that were read
 module _ (s : List ℕ) (at : ℕ) where
-  pub brief_at : length s - at ≤ 4 → step_at s at ≡ Stop at
-  brief_at h =
-      let l : length (drop at s) ≤ 4 = simp length-drop h in
+  pub brief_at : head_at 1 s at ≡ None → ◌≡◌ {A = StepAnswer} (Ok (Stop at)) (step_at s at)
+  brief_at e =
+      let h = was_short 1 s at refl (sym e) in
+      let l : length (drop at s) ≤ 4 = simp length-drop (omega arith) in
       rw (of (drop at s) (none (inl l) (λ k. absurd (omega arith))), le-leb (length (drop at s)) 4 l)
 
-  module _ (long : 4 < length s - at) (kind : ℕ) (kind_is : num_at 2 (drop at s) 0 ≡ kind) where
-    long' : 4 < length (drop at s)
-    long' = simp length-drop long
+  module _ (h : TlvHead) (e : head_at 1 s at ≡ Some h) where
+    head : Head 1 s at h
+    head = was_found 1 s at e refl
 
-    pub strange_at : 1 < kind → step_at s at ≡ Bad (refusal Number.UnknownKind at)
-    strange_at h = rw (of (drop at s) (strange long' (rw kind_is h)), add-zero at)
+    long : 4 < length (drop at s)
+    long = let w = head in simp length-drop (omega arith)
 
-    module _ (size : ℕ) (size_is : num_at 2 (drop at s) 2 ≡ size) (place : ℕ) (place_is : place ≡ at + 4) where
-      pub beyond_at : kind ≤ 1 → length s - place < size → step_at s at ≡ Stop place
-      beyond_at k h =
-          rw (of (drop at s) (none (inr (long', rw (length-drop, size_is) (omega arith))) (λ l. rw kind_is k)), lt-leb (length (drop at s)) 4 long', place_is)
+    pub strange_at : 1 < h.kind → ◌≡◌ {A = StepAnswer} (Err (refusal Number.UnknownKind at)) (step_at s at)
+    strange_at k = let w = head in rw (of (drop at s) (strange long (rw w.kind_is k)), add-zero at)
 
-      begun_at : (k : ℕ) → kind ≡ k → size ≤ length s - place → Begun (drop at s) k
-      begun_at k e h = record { long = long'; kind_is = kind_is ∙ e; there = rw (length-drop, size_is) (omega arith) }
+    pub beyond_at : h.kind ≤ 1 → length s < h.value.at + h.length → ◌≡◌ {A = StepAnswer} (Ok (Stop h.value.at)) (step_at s at)
+    beyond_at k l =
+        let w = head in
+        rw (of (drop at s) (none (inr (long, rw (length-drop, w.size_is) (omega arith))) (λ m. rw w.kind_is k)), lt-leb (length (drop at s)) 4 long, w.next)
 
-      pub string_at : kind ≡ 0 → size ≤ length s - place → step_at s at ≡ Whole kind size place (cursor (place + size))
-      string_at k h =
-          let there : at + (4 + num_at 2 (drop at s) 2) ≡ place + size = omega arith in
-          ap (as_step at (drop at s)) (of (drop at s) (text (begun_at 0 k h)))
-          ∙ (λ i. Whole (sym k i) (size_is i) (sym place_is i) (cursor (there i)))
+    module _ (fits : h.value.at + h.length ≤ length s) where
+      begun : (k : ℕ) → h.kind ≡ k → Begun (drop at s) k
+      begun k e = let w = head in record { long = long; kind_is = w.kind_is ∙ e; there = rw (length-drop, w.size_is) (omega arith) }
 
-      module _ (one : kind ≡ 1) (fits : size ≤ length s - place) where
-        pub lacking_at : length s - place < 2 → step_at s at ≡ Bad (cut_at (length s) place 2)
-        lacking_at l =
-            ap (as_step at (drop at s)) (of (drop at s) (lacking (begun_at 1 one fits) (rw length-drop (omega arith)))) ∙ ap Bad (cut_from s at 4 place 2 place_is)
+      pub string_at : h.kind ≡ 0
+          → ◌≡◌ {A = StepAnswer} (Ok (Whole (record { kind = h.kind; info_len = h.length; number = h.value.at }) (cursor (h.value.at + h.length)))) (step_at s at)
+      string_at k =
+          let w = head in
+          let there : at + (4 + num_at 2 (drop at s) 2) ≡ h.value.at + h.length = omega arith in
+          sym (ap (step_of entry size_of stop_behind at (drop at s)) (of (drop at s) (text (begun 0 k)))
+          ∙ (λ i. Ok (Whole (record { kind = sym k i; info_len = w.size_is i; number = sym w.next i }) (cursor (there i)))))
 
-        module _ (two : 2 ≤ length s - place) (code : ℕ) (code_is : num_at 2 (drop at s) 4 ≡ code) where
-          pub unknown_at : 4 < code → step_at s at ≡ Bad (refusal Number.UnknownKind place)
-          unknown_at h = rw (of (drop at s) (unknown (begun_at 1 one fits) (rw length-drop (omega arith)) (rw code_is h)), place_is)
+      pub lacking_at : h.kind ≢ 0 → h.kind ≤ 1 → (r : Refusal) → read 2 s h.value.at ≡ Err r → ◌≡◌ {A = StepAnswer} (Err r) (step_at s at)
+      lacking_at m n r q =
+          let w = head in
+          let lacked = was_cut 2 s h.value.at q refl in
+          sym (ap (step_of entry size_of stop_behind at (drop at s)) (of (drop at s) (lacking (begun 1 (omega arith)) (rw length-drop (omega (arith, lacked.few)))))
+          ∙ ap Err (cut_from s at 4 h.value.at 2 w.next ∙ sym lacked.cut_is))
 
-          pub known_at : code ≤ 4 → (c : Cursor) → c.at ≡ place + 2 → step_at s at ≡ Whole kind size code c
-          known_at h c e =
-              let there : at + 6 ≡ c.at = omega arith in
-              ap (as_step at (drop at s)) (of (drop at s) (known (begun_at 1 one fits) (rw length-drop (omega arith)) (rw code_is h)))
-              ∙ (λ i. Whole (sym one i) (size_is i) (code_is i) (cursor (there i)))
+      module _ (m : h.kind ≢ 0) (n : h.kind ≤ 1) (code : ℕ) (c : Cursor) (q : read 2 s h.value.at ≡ Ok (code, c)) where
+        pub unknown_at : 4 < code → ◌≡◌ {A = StepAnswer} (Err (refusal Number.UnknownKind h.value.at)) (step_at s at)
+        unknown_at l =
+            let w = head in
+            let g = was_got 2 s h.value.at q refl in
+            rw (of (drop at s) (unknown (begun 1 (omega arith)) (rw length-drop (omega arith)) (rw (was_in at 4 w.next g) l)), w.next)
 
--- ---- and the other way
-pub was_stop : (at p : ℕ) (s : List ℕ) → as_step at s (step s) ≡ Stop p → (step s ≡ stop) × (p ≡ stop_at at (tail_of s))
-was_stop at p s e = go (step s) refl e
-  where
-    go : (x : Walk.Step Tlv) → step s ≡ x → as_step at s x ≡ Stop p → (step s ≡ stop) × (p ≡ stop_at at (tail_of s))
-    go stop h q = (h, cc)
-    go (bad r) h q = (cc, cc)
-    go (item t) h q = (cc, cc)
+        pub known_at : code ≤ 4
+            → ◌≡◌ {A = StepAnswer} (Ok (Whole (record { kind = h.kind; info_len = h.length; number = code }) c)) (step_at s at)
+        known_at l =
+            let w = head in
+            let g = was_got 2 s h.value.at q refl in
+            let code_is = was_in at 4 w.next g in
+            let one : h.kind ≡ 1 = omega arith in
+            let there : at + 6 ≡ c.at = omega arith in
+            sym (ap (step_of entry size_of stop_behind at (drop at s)) (of (drop at s) (known (begun 1 one) (rw length-drop (omega arith)) (rw code_is l)))
+            ∙ (λ i. Ok (Whole (record { kind = sym one i; info_len = w.size_is i; number = code_is i }) (cursor (there i)))))
 
-pub was_bad : (at : ℕ) (r : Refusal) (s : List ℕ) → as_step at s (step s) ≡ Bad r → (d : Refusal) × (step s ≡ bad d) × (from at d ≡ r)
-was_bad at r s e = go (step s) refl e
-  where
-    go : (x : Walk.Step Tlv) → step s ≡ x → as_step at s x ≡ Bad r → (d : Refusal) × (step s ≡ bad d) × (from at d ≡ r)
-    go stop h q = (r, cc, cc)
-    go (bad d) h q = (d, h, cc)
-    go (item t) h q = (r, cc, cc)
-
-pub was_whole : (at kind size number : ℕ) (c : Cursor) (s : List ℕ) → as_step at s (step s) ≡ Whole kind size number c
-    → (t : Tlv) × (step s ≡ item t) × (entry at t ≡ record { kind = kind; info_len = size; number = number }) × (at + size_of t ≡ c.at)
-was_whole at kind size number c s e = go (step s) refl e
-  where
-    go : (x : Walk.Step Tlv) → step s ≡ x → as_step at s x ≡ Whole kind size number c
-        → (t : Tlv) × (step s ≡ item t) × (entry at t ≡ record { kind = kind; info_len = size; number = number }) × (at + size_of t ≡ c.at)
-    go stop h q = let z : ◌≡◌ {A = ℕ} 0 1 = cc in absurd (omega arith)
-    go (bad r) h q = let z : ◌≡◌ {A = ℕ} 0 1 = cc in absurd (omega arith)
-    go (item (string n l)) h q =
-        let kind_is : 0 ≡ kind = cc in
-        let size_is : n ≡ size = cc in
-        let number_is : at + 4 ≡ number = cc in
-        (string n l, h, λ i. record { kind = kind_is i; info_len = size_is i; number = number_is i }, cc)
-    go (item (reason n code)) h q =
-        let kind_is : 1 ≡ kind = cc in
-        let size_is : n ≡ size = cc in
-        let number_is : code ≡ number = cc in
-        (reason n code, h, λ i. record { kind = kind_is i; info_len = size_is i; number = number_is i }, cc)
+-- those that it finds by itself
+pub ruleset answers = (brief_at, strange_at, beyond_at, lacking_at, unknown_at)

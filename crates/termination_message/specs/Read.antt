@@ -1,20 +1,19 @@
 -- What the reader answers, for every input.
-use Rattle.std.specs.Prelude.{ℕ, ◌+◌, ◌-◌, List, [], ◌∷◌, length, take, drop, leb, ltb, eqb}
+use Rattle.std.specs.Prelude.{ℕ, ◌-◌, List, [], ◌∷◌, length, take, drop, leb, ltb, eqb, Result}
 use Rattle.wire.specs.Number as Number
 use Rattle.wire.specs.Bytes.{pick, num_at}
 use Rattle.wire.specs.Refusal.{refusal, cut_at}
-use Rattle.cursor.specs.Read.{cursor}
 use Rattle.wire.specs.TlvAt.{tail_of, stop_at, tlv_widths}
 use Rattle.wire.specs.Walk as Walk
-use Rattle.wire.specs.Walk.{stop, bad, item, from, Kit, Out, good, refused, read_from}
+use Rattle.wire.specs.Walk.{stop, bad, item, Kit, Out, good, refused, read_from}
 use Rattle.wire.specs.Exactly.{Reader}
+use Rattle.wire.specs.declared.Refusal.{Refusal}
+use Rattle.walk.specs.Walk.{kit_of, step_of}
+use Rattle.walk.specs.declared.Step.{Step}
 use Rattle.termination_message.specs.Grammar.{Tlv, string, reason, size_of, places, grammar}
 use Rattle.termination_message.specs.Told as Told
-use Rattle.termination_message.specs.Shown.{entry, zero_tlv, good_answer, refused_answer, shown}
+use Rattle.termination_message.specs.Shown.{entry, zero_tlv, ReadTermination, good_answer, refused_answer, refusal_of, tail_at, shown}
 use Rattle.termination_message.specs.declared.TerminationTlv.{TerminationTlv}
-use Rattle.termination_message.specs.declared.TerminationAnswer.{TerminationAnswer}
-use Rattle.termination_message.specs.declared.Step.{Step}
-use Rattle.termination_message.specs.declared.Step.TheVariants.{Stop, Bad, Whole}
 
 -- the TLVs as they are taken off the front of some bytes, where they are all there
 abbrev pub string_in : List ℕ → Tlv
@@ -38,22 +37,24 @@ abbrev pub widths_in : List ℕ → List ℕ
 widths_in s = tlv_widths 2
 
 abbrev pub kit : Kit
-kit = record { Item = Tlv; Entry = TerminationTlv; step = step; size = size_of; entry = entry; none = zero_tlv; limit = places }
+kit = kit_of Tlv TerminationTlv step size_of entry zero_tlv places
 
--- one step at a place, as the code answers it: the stop, a fault, or the numbers of the entry and the cursor past it
-abbrev pub as_step : ℕ → List ℕ → Walk.Step Tlv → Step
-as_step at s stop = Stop (stop_at at (tail_of s))
-as_step at s (bad r) = Bad (from at r)
-as_step at s (item t) = Whole (entry at t).kind (entry at t).info_len (entry at t).number (cursor (at + size_of t))
+-- where a walk stops that finds no TLV in some bytes, which stand at a place: behind a head whose value is not all there
+abbrev pub stop_behind : ℕ → List ℕ → ℕ
+stop_behind at s = stop_at at (tail_of s)
 
-abbrev pub step_at : List ℕ → ℕ → Step
-step_at s at = as_step at (drop at s) (step (drop at s))
+-- one step at a place, as the code answers it
+abbrev pub StepAnswer : Type 0
+StepAnswer = Result (Step TerminationTlv) Refusal
 
-abbrev pub answer : Out TerminationTlv → TerminationAnswer
+abbrev pub step_at : List ℕ → ℕ → StepAnswer
+step_at s at = step_of entry size_of stop_behind at (drop at s) (step (drop at s))
+
+abbrev pub answer : Out TerminationTlv → ReadTermination
 answer (good n at table z) = good_answer n at table (tail_of z)
 answer (refused r) = refused_answer r
 
-abbrev pub read_termination : List ℕ → TerminationAnswer
+abbrev pub read_termination : List ℕ → ReadTermination
 read_termination s =
     pick (ltb Number.limit (length s)) (refused_answer (refusal Number.TooLong 0)) (answer (read_from kit (length s) 0 s))
 
@@ -66,12 +67,12 @@ abbrev pub reader : Reader
 reader =
     record {
       grammar = grammar;
-      Answer = TerminationAnswer;
+      Answer = ReadTermination;
       read = read_termination;
       shown = shown;
-      tail_at = λ a. a.tail;
+      tail_at = tail_at;
       told = Told.told;
       refused = refused_answer;
-      refusal_of = λ a. a.refusal;
+      refusal_of = refusal_of;
       numbers = numbers;
     }

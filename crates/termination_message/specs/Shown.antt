@@ -1,5 +1,5 @@
 -- How a reading is shown in the answer. Nothing here takes an input apart.
-use Rattle.std.specs.Prelude.{ℕ, ◌+◌, ◌-◌, List, [], ◌∷◌, ◌++◌, eqb, length, replicate, get_or}
+use Rattle.std.specs.Prelude.{ℕ, ◌+◌, ◌-◌, List, [], ◌∷◌, ◌++◌, eqb, length, replicate, get_or, Result, Ok, Err}
 use Rattle.wire.specs.Bytes.{pick}
 use Rattle.wire.specs.Refusal.{no_refusal}
 use Rattle.wire.specs.View.{view}
@@ -46,23 +46,37 @@ value_of t = pick (eqb t.kind 0) (TerminationTlvValue.String (text_of t)) (Termi
 abbrev pub zero_tlv : TerminationTlv
 zero_tlv = record { kind = 0; info_len = 0; number = 0 }
 
-unfoldable pub zero_table : List TerminationTlv
-zero_table = replicate places zero_tlv
-
 -- a TLV as the table shows it, where it starts at a place
 abbrev pub entry : ℕ → Tlv → TerminationTlv
 entry at (string size value) = record { kind = 0; info_len = size; number = at + 4 }
 entry at (reason size code) = record { kind = 1; info_len = size; number = code }
 
-abbrev pub good_answer : ℕ → ℕ → List TerminationTlv → Tail → TerminationAnswer
-good_answer count end table t =
-    record { refusal = no_refusal; stop = stop_at end t; tail = end; message = record { tlvs = table; count = count } }
+-- what the reader answers: a record, or the refusal alone
+abbrev pub ReadTermination : Type 0
+ReadTermination = Result TerminationAnswer Refusal
 
-abbrev pub refused_answer : Refusal → TerminationAnswer
-refused_answer r = record { refusal = r; stop = 0; tail = 0; message = record { tlvs = zero_table; count = 0 } }
+abbrev pub good_answer : ℕ → ℕ → List TerminationTlv → Tail → ReadTermination
+good_answer count end table t =
+    Ok (record { stop = stop_at end t; tail = end; message = record { tlvs = table; count = count } })
+
+abbrev pub refused_answer : Refusal → ReadTermination
+refused_answer r = Err r
+
+-- what an answer says: its refusal, its stop and where its tail starts, both zero where it refuses
+abbrev pub refusal_of : ReadTermination → Refusal
+refusal_of (Ok a) = no_refusal
+refusal_of (Err r) = r
+
+abbrev pub stop_of : ReadTermination → ℕ
+stop_of (Ok a) = a.stop
+stop_of (Err r) = 0
+
+abbrev pub tail_at : ReadTermination → ℕ
+tail_at (Ok a) = a.tail
+tail_at (Err r) = 0
 
 -- the good answer: the TLVs in order, entries past the count zero, the tail's start where the last TLV ends
-abbrev pub shown : Reading → TerminationAnswer
+abbrev pub shown : Reading → ReadTermination
 shown r =
     good_answer (length r.tlvs) (end_from size_of 0 r.tlvs)
     (shown_from size_of entry 0 r.tlvs ++ replicate (places - length r.tlvs) zero_tlv) r.tail

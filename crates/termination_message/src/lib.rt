@@ -1,13 +1,13 @@
 // The body of a BMP Termination message (RFC 7854, section 4.5).
 #![tactic(auto)]
 
-ghost use Rattle.std.specs.Prelude.{◌≡◌, ◌≤◌, length};
-ghost use Rattle.wire.specs.Number as Number;
-ghost use Rattle.termination_message.specs.Shown.{type_of, reason_of, code_of, value_of, zero_tlv, refused_answer};
-ghost use Rattle.termination_message.specs.Read.{step_at, read_termination};
+ghost use Rattle.std.specs.Prelude.{◌≡◌};
+ghost use Rattle.termination_message.specs.Grammar.{Tlv, size_of};
+ghost use Rattle.termination_message.specs.Shown.{type_of, reason_of, code_of, value_of, entry, zero_tlv};
+ghost use Rattle.termination_message.specs.Read.{step, stop_behind, read_termination};
 
-use cursor::{Cursor, ReadU16};
-use tlv_head::TlvHead;
+use cursor::Cursor;
+use walk::{Entry, Step};
 use wire::{Refusal, View};
 
 #[derive(Clone, Copy)]
@@ -50,22 +50,14 @@ pub struct TerminationMessage {
 // The stop is what the Rust has consumed, the tail starts where the last TLV ends: after an oversized length they differ by 4.
 #[derive(Clone, Copy)]
 pub struct TerminationAnswer {
-    pub refusal: Refusal,
     pub stop: usize,
     pub tail: usize,
     pub message: TerminationMessage,
 }
 
-// What stands at a place of the walk: its end with the stop place, a fault, or the three numbers of a TLV and the cursor past it.
-#[derive(Clone, Copy)]
-enum Step {
-    Stop(usize),
-    Bad(Refusal),
-    Whole(u16, u16, u32, Cursor),
-}
-
 impl TerminationReason {
     // The number that stands for the reason on the wire.
+    #[tactic(auto, unfolding(crate::specs::Shown::code_of))]
     pub fn code(self) -> u16
         ensures { result ≡ code_of self }
     {
@@ -97,6 +89,7 @@ impl TerminationTlv {
 
 impl TerminationTlvValue {
     // The type of a TLV that has this value.
+    #[tactic(auto, unfolding(crate::specs::Shown::type_of))]
     pub fn info_type(self) -> TerminationTlvType
         ensures { result ≡ type_of self }
     {
@@ -108,77 +101,78 @@ impl TerminationTlvValue {
 }
 
 // Reads the body of a Termination message: its TLVs, up to 32, and where its tail starts.
-pub fn parse_termination_message(s: &[u8]) -> TerminationAnswer
+pub fn parse_termination_message(s: &[u8]) -> Result<TerminationAnswer, Refusal>
     ensures { result ≡ read_termination s.now }
 {
-    if wire::LIMIT < s.len() {
-        return refused(wire::refusal_at(wire::TOO_LONG, 0));
-    }
-    let zero = zero_tlv();
-    let mut tlvs = [zero; wire::TLV_PLACES];
-    let mut count: usize = 0;
-    let mut at: usize = 0;
-    let stop = loop {
-        match step_at(s, at) {
-            Step::Stop(place) => break place,
-            Step::Bad(refusal) => return refused(refusal),
-            Step::Whole(kind, size, number, next) => {
-                if wire::TLV_PLACES <= count {
-                    return refused(wire::refusal_at(wire::TOO_MANY, at));
-                }
-                tlvs[count] = TerminationTlv {
-                    kind: kind,
-                    info_len: size,
-                    number: number,
-                };
-                count += 1;
-                at = next.at;
-            }
-        }
+    let none = TerminationTlv {
+        kind: 0,
+        info_len: 0,
+        number: 0,
     };
-    TerminationAnswer {
-        refusal: wire::no_refusal(),
-        stop: stop,
-        tail: at,
+    let mut tlvs = [none; wire::TLV_PLACES];
+    let walked = walk::walk(s, 0, s.len(), &mut tlvs)?;
+    Ok(TerminationAnswer {
+        stop: walked.stop,
+        tail: walked.end,
         message: TerminationMessage {
-            tlvs: tlvs,
-            count: count,
+            tlvs,
+            count: walked.count,
         },
-    }
+    })
 }
 
-// The type is judged before the length. A Reason ends behind its two bytes, and not where its length says.
-fn step_at(s: &[u8], at: usize) -> Step
-    requires { length s.now ≤ Number.limit }
-    ensures { result ≡ step_at s.now at }
-{
-    let start = Cursor { at: at };
-    let TlvHead::Found(kind, size, value) = tlv_head::read_head(start, s, 1) else {
-        return Step::Stop(at);
-    };
-    if 1 < kind {
-        return Step::Bad(wire::refusal_at(wire::UNKNOWN_KIND, at));
-    }
-    let place = value.at;
-    let end = place + (size as usize);
-    if s.len() < end {
-        return Step::Stop(place);
-    }
-    if kind == 0 {
-        return Step::Whole(kind, size, place as u32, Cursor { at: end });
-    }
-    match value.read_u16(s) {
-        ReadU16::Cut(refusal) => Step::Bad(refusal),
-        ReadU16::Good(code, next) => {
-            if 4 < code {
-                return Step::Bad(wire::refusal_at(wire::UNKNOWN_KIND, place));
-            }
-            Step::Whole(kind, size, code as u32, next)
+impl Entry for TerminationTlv {
+    ghost Item = { Tlv };
+
+    ghost step = { step };
+
+    ghost size = { size_of };
+
+    ghost entry = { entry };
+
+    ghost none = { zero_tlv };
+
+    ghost stop_at = { stop_behind };
+
+    // The type is judged before the length. A Reason ends behind its two bytes, and not where its length says.
+    #[tactic(auto, using(crate::proofs::Steps::answers))]
+    fn step_at(s: &[u8], at: usize) -> Result<Step<TerminationTlv>, Refusal> {
+        let Some(head) = tlv_head::read_head(Cursor { at }, s, 1) else {
+            return Ok(Step::Stop(at));
+        };
+        let kind = head.kind;
+        let info_len = head.length;
+        let place = head.value.at;
+        if 1 < kind {
+            return Err(wire::refusal_at(wire::UNKNOWN_KIND, at));
         }
+        let end = place + (info_len as usize);
+        if s.len() < end {
+            return Ok(Step::Stop(place));
+        }
+        if kind == 0 {
+            let tlv = TerminationTlv {
+                kind,
+                info_len,
+                number: place as u32,
+            };
+            return Ok(Step::Whole(tlv, Cursor { at: end }));
+        }
+        let (code, next) = head.value.read::<u16>(s)?;
+        if 4 < code {
+            return Err(wire::refusal_at(wire::UNKNOWN_KIND, place));
+        }
+        let tlv = TerminationTlv {
+            kind,
+            info_len,
+            number: code as u32,
+        };
+        Ok(Step::Whole(tlv, next))
     }
 }
 
 // The name of a code; all above 3 have the last, of which the reader lets only 4 in.
+#[tactic(auto, unfolding(crate::specs::Shown::reason_of))]
 fn reason_of(code: u32) -> TerminationReason
     ensures { result ≡ reason_of code }
 {
@@ -188,30 +182,5 @@ fn reason_of(code: u32) -> TerminationReason
         2 => TerminationReason::OutOfResources,
         3 => TerminationReason::RedundantConnection,
         _ => TerminationReason::PermanentlyAdministrativelyClosed,
-    }
-}
-
-fn zero_tlv() -> TerminationTlv
-    ensures { result ≡ zero_tlv }
-{
-    TerminationTlv {
-        kind: 0,
-        info_len: 0,
-        number: 0,
-    }
-}
-
-fn refused(refusal: Refusal) -> TerminationAnswer
-    ensures { result ≡ refused_answer refusal }
-{
-    let zero = zero_tlv();
-    TerminationAnswer {
-        refusal: refusal,
-        stop: 0,
-        tail: 0,
-        message: TerminationMessage {
-            tlvs: [zero; wire::TLV_PLACES],
-            count: 0,
-        },
     }
 }

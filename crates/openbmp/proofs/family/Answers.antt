@@ -5,5 +5,5 @@ use Rattle.openbmp.proofs.family.Goals as goal
 pub returns-then-flags-ne0 : goal.returns-then-flags-ne0
 returns-then-flags-ne0 c = sym (rw (flag_set 6 c.args.flags c.if-flags-ne0.true))
 
-pub returns : goal.returns
-returns c = sym (rw (flag_clear 6 c.args.flags c.if-flags-ne0.false))
+pub returns-else-flags-ne0 : goal.returns-else-flags-ne0
+returns-else-flags-ne0 c = sym (rw (flag_clear 6 c.args.flags c.if-flags-ne0.false))

@@ -9,23 +9,23 @@ returns-in-4 c =
     let a = c.args in
     let s = a.s.now in
     data_good a.size s a.at _ (value_4 a.size s a.at c.in-4.is) _ _ _ c.requires refl refl
-    (c.u32_at.ensures ∙ number_is 4 s a.at (omega arith))
+    (c.read_at.ensures ∙ number_is 4 s a.at (omega arith))
 
 pub returns-in-8 : goal.returns-in-8
 returns-in-8 c =
     let a = c.args in
     let s = a.s.now in
     data_good a.size s a.at _ (value_8 a.size s a.at c.in-8.is) _ _ _ c.requires refl refl
-    (c.u64_at.ensures ∙ number_is 8 s a.at (omega arith))
+    (c.read_at-in-8.ensures ∙ number_is 8 s a.at (omega arith))
 
 pub returns-in-11 : goal.returns-in-11
 returns-in-11 c =
     let a = c.args in
     let s = a.s.now in
     data_good a.size s a.at _ (value_11 a.size s a.at c.in-11.is) _ _ _ c.requires
-    (c.u16_at.ensures ∙ number_is 2 s a.at (omega arith))
-    (c.u8_at.ensures ∙ number_is 1 s _ (omega arith))
-    (c.u64_at-in-11.ensures ∙ number_is 8 s _ (omega arith))
+    (c.read_at-in-11.ensures ∙ number_is 2 s a.at (omega arith))
+    (c.read_at-in-11-2.ensures ∙ number_is 1 s _ (omega arith))
+    (c.read_at-in-11-3.ensures ∙ number_is 8 s _ (omega arith))
 
 pub returns-in_default : goal.returns-in_default
 returns-in_default c =
