@@ -12,18 +12,16 @@ use Rattle.wire.specs.Number as Number
 use Rattle.wire.specs.Bytes.{Bytes, none}
 use Rattle.wire.proofs.Bytes.{bytes_be, bytes_append}
 use Rattle.writing.proofs.Tests.{both}
-use Rattle.writing.specs.Write.{length_of, Wrote}
-use Rattle.writing.specs.declared.WriteAnswer.{WriteAnswer}
-use Rattle.writing.specs.declared.WriteAnswer.TheVariants.{Written}
+use Rattle.std.specs.declared.result.Result.TheVariants.{Ok}
+use Rattle.writing.specs.Write.{WriteAnswer, length_of, Wrote}
 use Rattle.writing.proofs.Answers.{front, wrote_determined}
 use Rattle.common_header.specs.Grammar.{Good}
-use Rattle.common_header.specs.Shown.{kind_of, shown, refusal_of, stop_of, header_of}
+use Rattle.common_header.specs.Shown.{CommonHeaderAnswer, kind_of, shown, refusal_of, stop_of, header_of}
 use Rattle.common_header.specs.Read.{read_common_header}
 use Rattle.common_header_writer.specs.Write.{reading_of, bytes_of, writable}
 use Rattle.common_header_writer.specs.Unwritable.{Unwritable}
 use Rattle.common_header_writer.proofs.Unwritable.{listed}
 use Rattle.common_header.specs.declared.BmpCommonHeader.{BmpCommonHeader}
-use Rattle.common_header.specs.declared.CommonHeaderAnswer.{CommonHeaderAnswer}
 use Rattle.common_header.proofs.Laws.{length_join}
 use Rattle.common_header.proofs.Promises.{sound, complete, named}
 
@@ -56,7 +54,7 @@ reads_back h e =
 pub round_trip : (h : BmpCommonHeader) (out out' : List ℕ) (a : WriteAnswer)
     → Wrote (writable h) (bytes_of h) out a out'
     → writable h ≡ true → length (bytes_of h) ≤ length out
-    → (a ≡ Written (length (bytes_of h))) × ReadsBack h (take (length_of a) out')
+    → (a ≡ Ok (length (bytes_of h))) × ReadsBack h (take (length_of a) out')
 round_trip h out out' a wrote w room =
     let n = length_join (reading_of h) in
     front (ReadsBack h) wrote w (omega arith) room (reads_back h w)

@@ -7,18 +7,17 @@ ghost use Rattle.writing.specs.Write.{Wrote};
 ghost use Rattle.common_header_writer.specs.Write.{writable, bytes_of};
 
 use common_header::{BmpCommonHeader, COMMON_HEADER, VERSION};
-use writing::WriteAnswer;
+use numbers_writer::PutNumber;
+use wire::Refusal;
 
 // Writes the header to the front of the output.
-pub fn write_bmp_common_header(header: BmpCommonHeader, out: &mut [u8]) -> WriteAnswer
+#[tactic(auto, using(writing::proofs::Answers::left_alone, writing::proofs::Answers::put_there), unfolding(wire::specs::Bytes::be))]
+pub fn write_bmp_common_header(header: BmpCommonHeader, out: &mut [u8]) -> Result<usize, Refusal>
     ensures { Wrote (writable header) (bytes_of header) out.old result out.new }
 {
-    let answer = writing::write_answer(is_writable(header), COMMON_HEADER, out.len());
-    let WriteAnswer::Written(_) = answer else {
-        return answer;
-    };
+    let length = writing::write_answer(is_writable(header), COMMON_HEADER, out.len())?;
     put_header(header, out);
-    answer
+    Ok(length)
 }
 
 fn is_writable(header: BmpCommonHeader) -> bool
@@ -27,12 +26,13 @@ fn is_writable(header: BmpCommonHeader) -> bool
     header.version == VERSION
 }
 
+#[tactic(auto, using(writing::proofs::Sets::put_then, writing::proofs::Sets::put_fits, writing::proofs::Sets::length_put), unfolding(wire::specs::Bytes::be))]
 fn put_header(header: BmpCommonHeader, out: &mut [u8])
     requires { 6 ≤ length out.old }
     ensures { out.new ≡ sets out.old 0 (bytes_of header) }
 {
     let msg_type = header.msg_type;
-    numbers_writer::put_u8(out, 0, header.version);
-    numbers_writer::put_u32(out, 1, header.msg_len);
-    numbers_writer::put_u8(out, 5, common_header::kind_of(msg_type));
+    header.version.put(out, 0);
+    header.msg_len.put(out, 1);
+    common_header::kind_of(msg_type).put(out, 5);
 }

@@ -18,10 +18,10 @@ use Rattle.tlv_table.proofs.Written.{good_part, before_from}
 use Rattle.tlv_table.specs.Tlvs.{entry_writable_before}
 use Rattle.initiation_message.specs.Grammar.{Reading, join, ReadTlv, places}
 use Rattle.initiation_message.specs.Shown.{info_of, zero_tlv, entry}
-use Rattle.initiation_message_writer.specs.Write.{value_of, part_of, writer, bytes_of, writable, entry_of, SameTlv, Same}
+use Rattle.initiation_message_writer.specs.Write.{value_of, part_of, writer, bytes_of, writable, entry_of, SameTlv, SameRead}
 use Rattle.initiation_message.specs.declared.InitiationTlv.{InitiationTlv}
 use Rattle.initiation_message.specs.declared.InitiationMessage.{InitiationMessage}
-use Rattle.initiation_message.specs.declared.InitiationAnswer.{InitiationAnswer}
+use Rattle.initiation_message.specs.Shown.{ReadInitiation}
 use Rattle.initiation_message.proofs.Shows.{ViewAt}
 use Rattle.initiation_message_writer.proofs.Trip.{ReadsBack}
 
@@ -52,7 +52,7 @@ pub writable_from : (m : InitiationMessage) (b : List ℕ) → length m.tlvs ≡
     → ReadsBack m b (bytes_of m b) → writable m (length b) ≡ true
 writable_from m b long inside q x view-so r =
     let s = bytes_of m b in
-    let same = subst (λ (a : InitiationAnswer). Same m b a.message s) x.shown_so r.same in
+    let same = subst (λ (a : ReadInitiation). SameRead m b a s) x.shown_so r.same in
     let few : m.count ≤ places = omega (arith, same.count_same, x.reading.fits) in
     let v : AllAt size_of (ViewAt s) 0 q.tlvs = subst (λ (z : List ℕ). AllAt size_of (ViewAt z) 0 q.tlvs) x.reading.joined view-so in
     let good =

@@ -17,13 +17,12 @@ use Rattle.writing.proofs.Trip.{table_same, end_sizes}
 use Rattle.tlv_table.proofs.Table.{bodied}
 use Rattle.tlv_table.proofs.Written.{part_good, before_of}
 use Rattle.initiation_message.specs.Grammar.{ReadTlv, Good, places}
-use Rattle.initiation_message.specs.Shown.{zero_tlv, entry, shown}
+use Rattle.initiation_message.specs.Shown.{ReadInitiation, refusal_of, stop_of, zero_tlv, entry, shown}
 use Rattle.initiation_message.specs.Read.{read_initiation}
-use Rattle.initiation_message_writer.specs.Write.{part_of, tlv_writable, writer, kept, reading_of, bytes_of, entry_of, SameTlv, Same}
+use Rattle.initiation_message_writer.specs.Write.{part_of, tlv_writable, writer, kept, reading_of, bytes_of, entry_of, SameTlv, SameRead}
 use Rattle.initiation_message.specs.declared.InitiationTlv.{InitiationTlv}
 use Rattle.initiation_message.specs.declared.InitiationMessage.{InitiationMessage}
-use Rattle.initiation_message.specs.declared.InitiationAnswer.{InitiationAnswer}
-use Rattle.initiation_message_writer.proofs.Written.{entries}
+use Rattle.initiation_message_writer.specs.Entries.{entries}
 use Rattle.initiation_message.proofs.Shows.{ViewAt}
 
 read_tlv : (b : List ℕ) → Bytes b → (t : InitiationTlv) (l : List InitiationTlv) → tlv_writable (length b) (length l) t ≡ true → all_ok writer (length b) l ≡ true
@@ -44,9 +43,9 @@ same_tlv b s n at t o v = record { kind_same = refl; len_same = refl; bytes_same
 
 -- the bytes s are read as the record m, whose views point into b, to their end
 pub record ReadsBack (m : InitiationMessage) (b s : List ℕ) : Type 0 where
-  pub read_good : (read_initiation s).refusal.number ≡ Number.Good
-  pub whole : (read_initiation s).stop ≡ length s
-  pub same : Same m b (read_initiation s).message s
+  pub read_good : (refusal_of (read_initiation s)).number ≡ Number.Good
+  pub whole : stop_of (read_initiation s) ≡ length s
+  pub same : SameRead m b (read_initiation s) s
 
 pub reads_back : (m : InitiationMessage) (b : List ℕ) → length m.tlvs ≡ places → Kept writer places m.count m.tlvs (length b)
     → read_initiation (bytes_of m b) ≡ shown (reading_of m b) → AllAt size_of (ViewAt (bytes_of m b)) 0 (reading_of m b).tlvs
@@ -55,10 +54,10 @@ reads_back m b long x a v =
     let s = bytes_of m b in
     let few : m.count ≤ length m.tlvs = omega (arith, long, x.few) in
     record {
-      read_good = ap (λ (y : InitiationAnswer). y.refusal.number) a;
-      whole = ap (λ (y : InitiationAnswer). y.stop) a ∙ end_sizes writer size_of entry (ViewAt s) b (λ n t o. refl) (kept m) 0 x.fine
+      read_good = ap (λ (y : ReadInitiation). (refusal_of y).number) a;
+      whole = ap stop_of a ∙ end_sizes writer size_of entry (ViewAt s) b (λ n t o. refl) (kept m) 0 x.fine
           ∙ omega (arith, length_joined writer (bodied entries) b (kept m) x.fine);
-      same = subst (λ (y : InitiationAnswer). Same m b y.message s) (sym a) (record {
+      same = subst (λ (y : ReadInitiation). SameRead m b y s) (sym a) (record {
         count_same = sym (length_parts writer b (kept m) ∙ length-take-le m.count m.tlvs few);
         tlv_same = table_same writer size_of entry (ViewAt s) b (λ t u. SameTlv t b u s) zero_tlv (same_tlv b s) _ m.tlvs m.count 0 few x.fine v;
       });

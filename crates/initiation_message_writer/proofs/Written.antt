@@ -1,11 +1,17 @@
--- What the writing kit asks of an Initiation body. Assumes nothing.
-use mathlib.Core.Path.{refl}
-use Rattle.wire.specs.Bytes.{be}
-use Rattle.tlv_table.proofs.Written.{before_of}
-use Rattle.tlv_table.proofs.Table.{Entries}
-use Rattle.initiation_message_writer.specs.Write.{writer, entry_of}
+-- How many bytes a writable record takes. Assumes nothing.
+use mathlib.Core.Path.{◌≡◌, ◌∙◌}
+use mathlib.Core.Bool.{true}
+use mathlib.Core.List.{List}
+use Prim.Native.Nat.{ℕ, ◌+◌}
+use native.Mathlib.Omega.{arith}
+use lib.ListN.{length}
+use Rattle.writing.specs.Table.{sizes}
+use Rattle.writing.proofs.Table.{length_joined, kept_of}
+use Rattle.tlv_table.proofs.Table.{bodied}
+use Rattle.initiation_message.specs.Grammar.{places}
+use Rattle.initiation_message_writer.specs.Write.{writer, kept, bytes_of, writable}
+use Rattle.initiation_message_writer.specs.Entries.{entries}
+use Rattle.initiation_message.specs.declared.InitiationMessage.{InitiationMessage}
 
--- ---- what is put for one TLV
-pub entries : Entries writer entry_of
-unfolding be
-entries = record { put_is = λ b t r. refl; fine = λ room after t e. (before_of room after (entry_of t) e).alone; size_is = λ t. refl }
+pub bytes_long : (m : InitiationMessage) (b : List ℕ) → writable m (length b) ≡ true → length (bytes_of m b) ≡ 0 + sizes writer (kept m)
+bytes_long m b e = length_joined writer (bodied entries) b (kept m) (kept_of writer places m.count m.tlvs (length b) e).fine ∙ omega arith

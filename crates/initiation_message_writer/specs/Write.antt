@@ -1,5 +1,5 @@
 -- What the writer writes: the reading of a record, by the grammar's own parts; which records are writable; when two are the same.
-use Rattle.std.specs.Prelude.{ℕ, ◌+◌, ◌<◌, ◌≡◌, Bool, false, List, [], take, get_or, ltb}
+use Rattle.std.specs.Prelude.{ℕ, ◌+◌, ◌<◌, ◌≡◌, Bool, false, List, [], take, get_or, ltb, Ok, Err}
 use Rattle.wire.specs.Bytes.{pick}
 use Rattle.wire.specs.View.{viewed}
 use Rattle.wire.specs.Tlv.{Tlv, put_tlv, short}
@@ -8,7 +8,7 @@ use Rattle.tlv_table.specs.Tlvs.{entry_writable_before}
 use Rattle.tlv_table.specs.declared.TlvValue.TheVariants.{Part}
 use Rattle.tlv_table.specs.declared.TlvEntry.{TlvEntry}
 use Rattle.initiation_message.specs.Grammar.{Reading, join, places}
-use Rattle.initiation_message.specs.Shown.{info_of, zero_tlv}
+use Rattle.initiation_message.specs.Shown.{ReadInitiation, info_of, zero_tlv}
 use Rattle.initiation_message.specs.declared.InitiationTlv.{InitiationTlv}
 use Rattle.initiation_message.specs.declared.InitiationMessage.{InitiationMessage}
 
@@ -61,3 +61,8 @@ pub record SameTlv (t : InitiationTlv) (b : List ℕ) (u : InitiationTlv) (s : L
 pub record Same (m : InitiationMessage) (b : List ℕ) (n : InitiationMessage) (s : List ℕ) : Type 0 where
   pub count_same : m.count ≡ n.count
   pub tlv_same : (i : ℕ) → i < m.count → SameTlv (get_or m.tlvs i zero_tlv) b (get_or n.tlvs i zero_tlv) s
+
+-- what a reader answers shows the same record
+abbrev pub SameRead : InitiationMessage → List ℕ → ReadInitiation → List ℕ → Type 0
+SameRead m b (Ok a) s = Same m b a.message s
+SameRead m b (Err r) s = ⊥

@@ -3,60 +3,75 @@
 
 ghost use Rattle.std.specs.Prelude.{◌≡◌, length};
 ghost use Rattle.writing.specs.Write.{Wrote};
-ghost use Rattle.initiation_message_writer.specs.Write.{entry_of, bytes_of, writable};
+ghost use Rattle.tlv_table.specs.Tlvs.{one_tlv};
+ghost use Rattle.tlv_table.proofs.Table.{bodied};
+ghost use Rattle.initiation_message_writer.specs.Write.{writer, entry_of, bytes_of, writable};
+ghost use Rattle.initiation_message_writer.specs.Entries.{entries};
 
 use initiation_message::{InitiationMessage, InitiationTlv};
+use table_writer::Table;
 use tlv_table::{TlvEntry, TlvValue};
-use writing::WriteAnswer;
+use wire::Refusal;
 
 // Writes the message, whose views point into the buffer, to the front of the output. The table is judged and measured in one pass
 // and written in a second, where it stands.
+#[tactic(auto, using(writing::proofs::Answers::left_alone, writing::proofs::Answers::put_there, crate::proofs::Written::bytes_long))]
 pub fn write_initiation_message(
     message: InitiationMessage,
     buffer: &[u8],
     out: &mut [u8],
-) -> WriteAnswer
+) -> Result<usize, Refusal>
     ensures { Wrote (writable message (length buffer.now)) (bytes_of message buffer.now) out.old result out.new }
 {
     let count = message.count;
     if wire::TLV_PLACES < count {
         return writing::write_answer(false, 0, out.len());
     }
-    let mut length: usize = 0;
-    let mut i: usize = 0;
-    while i < count {
-        let tlv = message.tlvs[i];
-        let entry = entry_of(tlv);
-        // The last TLV must not be empty: the reader would take it for a tail.
-        if !tlv_table::entry_writable_before(entry, buffer.len(), count - i - 1) {
-            return writing::write_answer(false, 0, out.len());
-        }
-        length += tlv_table::tlv_length(entry);
-        i += 1;
+    let tlvs = &message.tlvs[..count];
+    let length = table_writer::answer::<Tlvs>(0, tlvs, buffer.len(), out.len())?;
+    table_writer::put_all::<Tlvs>(out, 0, tlvs, buffer);
+    Ok(length)
+}
+
+struct Tlvs;
+
+impl Table for Tlvs {
+    type Entry = InitiationTlv;
+
+    ghost Item = { writer.Item };
+
+    ghost part = { writer.part };
+
+    ghost put_item = { writer.put };
+
+    ghost ok = { writer.ok };
+
+    ghost size = { writer.size };
+
+    ghost one = { λ b t. one_tlv b (entry_of t) };
+
+    ghost bodied = { bodied entries };
+
+    // The last TLV must not be empty: the reader would take it for a tail.
+    fn is_writable(tlv: InitiationTlv, buffer_length: usize, after: usize) -> bool {
+        tlv_table::entry_writable_before(entry_of(tlv), buffer_length, after)
     }
-    let answer = writing::write_answer(true, length, out.len());
-    let WriteAnswer::Written(_) = answer else {
-        return answer;
-    };
-    let mut at: usize = 0;
-    let mut k: usize = 0;
-    while k < count {
-        let tlv = message.tlvs[k];
-        let entry = entry_of(tlv);
-        tlv_table::put_entry(out, at, entry, buffer);
-        at += tlv_table::tlv_length(entry);
-        k += 1;
+
+    fn length(tlv: InitiationTlv) -> usize {
+        tlv_table::tlv_length(entry_of(tlv))
     }
-    answer
+
+    fn put(out: &mut [u8], at: usize, tlv: InitiationTlv, buffer: &[u8]) {
+        tlv_table::put_entry(out, at, entry_of(tlv), buffer);
+    }
 }
 
 fn entry_of(tlv: InitiationTlv) -> TlvEntry
     ensures { result ≡ entry_of tlv }
 {
-    let view = tlv.info();
     TlvEntry {
         kind: tlv.kind,
         size: tlv.info_len,
-        value: TlvValue::Part(view),
+        value: TlvValue::Part(tlv.info()),
     }
 }

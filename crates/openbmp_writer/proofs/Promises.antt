@@ -8,16 +8,14 @@ use native.Mathlib.Omega.{arith}
 use lib.ListN.{length, take}
 use Rattle.wire.specs.Number as Number
 use Rattle.wire.specs.Bytes.{Bytes}
-use Rattle.writing.specs.Write.{length_of, Wrote}
-use Rattle.writing.specs.declared.WriteAnswer.{WriteAnswer}
-use Rattle.writing.specs.declared.WriteAnswer.TheVariants.{Written}
+use Rattle.std.specs.declared.result.Result.TheVariants.{Ok}
+use Rattle.writing.specs.Write.{WriteAnswer, length_of, Wrote}
 use Rattle.writing.proofs.Answers.{front, wrote_determined}
-use Rattle.openbmp.specs.Shown.{shown_header}
+use Rattle.openbmp.specs.Shown.{OpenBmpResult, shown_header, refusal_of, stop_of, header_of}
 use Rattle.openbmp.specs.Read.{read_open_bmp_header}
 use Rattle.openbmp_writer.specs.Write.{reading_of, bytes_of, writable, Typed, Same}
 use Rattle.openbmp_writer.specs.Unwritable.{Unwritable}
 use Rattle.openbmp.specs.declared.OpenBmpHeader.{OpenBmpHeader}
-use Rattle.openbmp.specs.declared.OpenBmpAnswer.{OpenBmpAnswer}
 use Rattle.openbmp.proofs.Laws.{length_join}
 use Rattle.openbmp_writer.proofs.Trip.{bytes_written, good_reading, short_enough, same_again, again_writable}
 use Rattle.openbmp_writer.proofs.Unwritable.{listed}
@@ -25,9 +23,9 @@ use Rattle.openbmp.proofs.Promises.{sound, complete}
 
 -- the bytes s are read as the header h, whose views point into b, to their end
 pub record ReadsBack (h : OpenBmpHeader) (b s : List ℕ) : Type 0 where
-  pub read_good : (read_open_bmp_header s).refusal.number ≡ Number.Good
-  pub whole : (read_open_bmp_header s).stop ≡ length s
-  pub same : Same h b (read_open_bmp_header s).header s
+  pub read_good : (refusal_of (read_open_bmp_header s)).number ≡ Number.Good
+  pub whole : stop_of (read_open_bmp_header s) ≡ length s
+  pub same : Same h b (header_of (read_open_bmp_header s)) s
 
 module _ (h : OpenBmpHeader) (b : List ℕ) (t : Typed h) (p : Bytes b) where
   reads_back : writable h (length b) ≡ true → ReadsBack h b (bytes_of h b)
@@ -35,16 +33,16 @@ module _ (h : OpenBmpHeader) (b : List ℕ) (t : Typed h) (p : Bytes b) where
       let g = good_reading h b t p w in
       let a = complete (reading_of h b) g tt (short_enough h b t p w) in
       record {
-        read_good = ap (λ (x : OpenBmpAnswer). x.refusal.number) a;
-        whole = ap (λ (x : OpenBmpAnswer). x.stop) a ∙ omega (arith, length_join (reading_of h b) g);
-        same = subst (λ (x : OpenBmpAnswer). Same h b x.header (bytes_of h b)) (sym a) (same_again h b t p w);
+        read_good = ap (λ (x : OpenBmpResult). (refusal_of x).number) a;
+        whole = ap stop_of a ∙ omega (arith, length_join (reading_of h b) g);
+        same = subst (λ (x : OpenBmpResult). Same h b (header_of x) (bytes_of h b)) (sym a) (same_again h b t p w);
       }
 
   -- What the writer has written, where the header is writable and there is room, is read back as the same header. It is never too long.
   pub round_trip : (out out' : List ℕ) (a : WriteAnswer)
       → Wrote (writable h (length b)) (bytes_of h b) out a out'
       → writable h (length b) ≡ true → length (bytes_of h b) ≤ length out
-      → (a ≡ Written (length (bytes_of h b))) × ReadsBack h b (take (length_of a) out')
+      → (a ≡ Ok (length (bytes_of h b))) × ReadsBack h b (take (length_of a) out')
   round_trip out out' a wrote w room =
       front (ReadsBack h b) wrote w (short_enough h b t p w) room (reads_back w)
 
@@ -54,7 +52,7 @@ module _ (h : OpenBmpHeader) (b : List ℕ) (t : Typed h) (p : Bytes b) where
   only_writable admin group r =
       let s = bytes_of h b in
       let x = sound s (bytes_written h b t p) r.read_good in
-      let same = subst (λ (a : OpenBmpAnswer). Same h b a.header s) x.1.shown_so r.same in
+      let same = subst (λ (a : OpenBmpResult). Same h b (header_of a) s) x.1.shown_so r.same in
       again_writable h b t p admin group x.0 x.1.reading.is_good (subst (Same h b (shown_header x.0)) (sym x.1.reading.joined) same)
 
 -- A header whose fields are of their types is not writable exactly where an item of the list holds of it.

@@ -28,17 +28,17 @@ length_counted : (l : List ℕ) → length (counted l) ≡ 2 + length l
 unfolding be
 length_counted l = omega arith
 
-pub put-counted : (out o1 o2 bytes : List ℕ) (at : ℕ) → at + (2 + length bytes) ≤ length out
+pub put_counted : (out o1 o2 bytes : List ℕ) (at : ℕ) → at + (2 + length bytes) ≤ length out
     → o1 ≡ put_at out at (be 2 (length bytes)) → o2 ≡ put_at o1 (at + 2) bytes → o2 ≡ put_at out at (counted bytes)
-put-counted out o1 o2 bytes at room e1 e2 =
+put_counted out o1 o2 bytes at room e1 e2 =
     let two = length_be 2 (length bytes) in
     put_then out o1 o2 at (at + 2) (be 2 (length bytes)) bytes (omega arith) e1 (omega arith) e2
 
-pub put-time : (out o1 o2 o3 : List ℕ) (seconds microseconds : ℕ) → 38 ≤ length out
+pub put_time : (out o1 o2 o3 : List ℕ) (seconds microseconds : ℕ) → 38 ≤ length out
     → o1 ≡ put_at out 14 (be 4 seconds) → o2 ≡ put_at o1 18 (be 4 microseconds) → o3 ≡ put_at o2 22 (replicate 16 0)
     → o3 ≡ put_at out 14 (time_bytes seconds microseconds)
 unfolding be
-put-time out o1 o2 o3 seconds microseconds room e1 e2 e3 =
+put_time out o1 o2 o3 seconds microseconds room e1 e2 e3 =
     let p2 = put_then out o1 o2 14 18 (be 4 seconds) (be 4 microseconds) (omega arith) e1 refl e2 in
     put_then out o2 o3 14 22 (be 4 seconds ++ be 4 microseconds) (replicate 16 0) (omega arith) p2 refl e3
 

@@ -8,16 +8,14 @@ use lib.ListN.{length, take}
 use Rattle.wire.specs.Number as Number
 use Rattle.wire.specs.Bytes.{Bytes, none}
 use Rattle.wire.proofs.Bytes.{bytes_be, bytes_append}
-use Rattle.writing.specs.Write.{length_of, Wrote}
-use Rattle.writing.specs.declared.WriteAnswer.{WriteAnswer}
-use Rattle.writing.specs.declared.WriteAnswer.TheVariants.{Written}
+use Rattle.std.specs.declared.result.Result.TheVariants.{Ok}
+use Rattle.writing.specs.Write.{WriteAnswer, length_of, Wrote}
 use Rattle.writing.proofs.Answers.{front, wrote_determined}
 use Rattle.peer_down_notification.specs.Grammar.{Data, Follows}
-use Rattle.peer_down_notification.specs.Shown.{kind_of, shown_data, refusal_of, stop_of, notification_of, view_of, data_of}
+use Rattle.peer_down_notification.specs.Shown.{PeerDownAnswer, kind_of, shown_data, refusal_of, stop_of, notification_of, view_of, data_of}
 use Rattle.peer_down_notification_writer.specs.Write.{reading_of, bytes_of, writable, Same}
 use Rattle.peer_down_notification_writer.specs.Unwritable.{Unwritable}
 use Rattle.peer_down_notification.specs.declared.PeerDownNotification.{PeerDownNotification}
-use Rattle.peer_down_notification.specs.declared.PeerDownAnswer.{PeerDownAnswer}
 use Rattle.peer_down_notification.proofs.Laws.{known_of}
 use Rattle.peer_down_notification.proofs.Told.{reason_told}
 use Rattle.peer_down_notification_writer.proofs.Trip.{reason_back, fine_from, good_of, bytes_data, fine_back, ReadsBack, stop_whole, no_more}
@@ -38,7 +36,7 @@ reads_back m b p w short =
 pub round_trip : (m : PeerDownNotification) (b out out' : List ℕ) (a : WriteAnswer) → Bytes b
     → Wrote (writable m (length b)) (bytes_of m b) out a out'
     → writable m (length b) ≡ true → length (bytes_of m b) ≤ Number.limit → length (bytes_of m b) ≤ length out
-    → (a ≡ Written (length (bytes_of m b))) × ReadsBack m b (take (length_of a) out')
+    → (a ≡ Ok (length (bytes_of m b))) × ReadsBack m b (take (length_of a) out')
 round_trip m b out out' a p wrote w short room =
     front (ReadsBack m b) wrote w short room (reads_back m b p w short)
 

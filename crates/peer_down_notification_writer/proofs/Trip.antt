@@ -6,6 +6,9 @@ use Prim.Native.Nat.{ℕ, ◌+◌, ◌≤◌}
 use native.Mathlib.Omega.{arith}
 use borrow.Author.Tests.{leb-true}
 use lib.ListN.{length, length-append}
+use Rattle.std.specs.declared.option.Option.{Option}
+use Rattle.std.specs.declared.option.Option.TheVariants.{Some, None}
+use Rattle.wire.specs.declared.View.{View}
 use Rattle.wire.specs.Number as Number
 use Rattle.wire.specs.Bytes.{be, Bytes, none}
 use Rattle.wire.specs.View.{no_view, inside, viewed}
@@ -18,8 +21,6 @@ use Rattle.peer_down_notification.specs.Read.{has_data, read_peer_down}
 use Rattle.peer_down_notification_writer.specs.Write.{reading_of, parts_writable, writable, Same}
 use Rattle.peer_down_notification.specs.declared.PeerDownReason.{PeerDownReason}
 use Rattle.peer_down_notification.specs.declared.PeerDownReason.TheVariants.{Reserved, LocalSystemClosedNotificationPduFollows, LocalSystemClosedFsmEvenFollows, RemoteSystemClosedNotificationPduFollows, RemoteSystemsClosedNoData, PeerDeConfigured, LocalSystemClosedTlvDataFollows}
-use Rattle.peer_down_notification.specs.declared.PeerDownData.{PeerDownData}
-use Rattle.peer_down_notification.specs.declared.PeerDownData.TheVariants.{Absent, Present}
 use Rattle.peer_down_notification.specs.declared.PeerDownNotification.{PeerDownNotification}
 use Rattle.peer_down_notification.proofs.Laws.{test_of, with_data, without_data}
 
@@ -35,30 +36,30 @@ reason_back PeerDeConfigured = (refl, omega arith)
 reason_back LocalSystemClosedTlvDataFollows = (refl, omega arith)
 
 -- ---- what `parts_writable` asks
-pub record Fine (k : ℕ) (d : PeerDownData) (room : ℕ) : Type 0 where
+pub record Fine (k : ℕ) (d : Option View) (room : ℕ) : Type 0 where
   pub given : has_data k (view_of d).length ≡ is_present d
   pub within : (view_of d).place + (view_of d).length ≤ room
 
-pub fine_of : (k : ℕ) (d : PeerDownData) (room : ℕ) → parts_writable k (is_present d) (view_of d) room ≡ true → Fine k d room
+pub fine_of : (k : ℕ) (d : Option View) (room : ℕ) → parts_writable k (is_present d) (view_of d) room ≡ true → Fine k d room
 unfolding parts_writable
-fine_of k Absent room e = record { given = (past (has_data k 0) (inside room no_view) e).0; within = omega arith }
-fine_of k (Present v) room e =
+fine_of k None room e = record { given = (past (has_data k 0) (inside room no_view) e).0; within = omega arith }
+fine_of k (Some v) room e =
     let h = both (has_data k v.length) (inside room v) e in
     record { given = h.0; within = leb-true (v.place + v.length) room h.1 }
 
-pub fine_from : (k : ℕ) (d : PeerDownData) (room : ℕ) → Fine k d room → parts_writable k (is_present d) (view_of d) room ≡ true
+pub fine_from : (k : ℕ) (d : Option View) (room : ℕ) → Fine k d room → parts_writable k (is_present d) (view_of d) room ≡ true
 unfolding parts_writable
-fine_from k Absent room f = rw f.given (inside_is room (no_view) f.within)
-fine_from k (Present v) room f = rw f.given (inside_is room v f.within)
+fine_from k None room f = rw f.given (inside_is room (no_view) f.within)
+fine_from k (Some v) room f = rw f.given (inside_is room v f.within)
 
 -- ---- a writable notification's reading is good
-follows_of : (b : List ℕ) (k : ℕ) (d : PeerDownData) → k ≤ 6 → Fine k d (length b) → Follows k (data_of b d) []
-follows_of b k Absent h f = without_data k h [] f.given
-follows_of b k (Present v) h f = with_data k h (viewed b v) (rw (view_long b v f.within) f.given)
+follows_of : (b : List ℕ) (k : ℕ) (d : Option View) → k ≤ 6 → Fine k d (length b) → Follows k (data_of b d) []
+follows_of b k None h f = without_data k h [] f.given
+follows_of b k (Some v) h f = with_data k h (viewed b v) (rw (view_long b v f.within) f.given)
 
-pub bytes_data : (b : List ℕ) → Bytes b → (d : PeerDownData) → Bytes (data_bytes (data_of b d))
-bytes_data b p Absent = none
-bytes_data b p (Present v) = bytes_viewed b v p
+pub bytes_data : (b : List ℕ) → Bytes b → (d : Option View) → Bytes (data_bytes (data_of b d))
+bytes_data b p None = none
+bytes_data b p (Some v) = bytes_viewed b v p
 
 pub good_of : (m : PeerDownNotification) (b : List ℕ) → Bytes b → writable m (length b) ≡ true → Good (reading_of m b)
 good_of m b p e =
@@ -69,9 +70,9 @@ good_of m b p e =
     }
 
 -- ---- and a notification whose reading is good, with its view inside, is writable
-pub fine_back : (b : List ℕ) (k : ℕ) (d : PeerDownData) → (view_of d).place + (view_of d).length ≤ length b → Follows k (data_of b d) [] → Fine k d (length b)
-fine_back b k Absent h f = record { given = test_of k absent [] f; within = h }
-fine_back b k (Present v) h f =
+pub fine_back : (b : List ℕ) (k : ℕ) (d : Option View) → (view_of d).place + (view_of d).length ≤ length b → Follows k (data_of b d) [] → Fine k d (length b)
+fine_back b k None h f = record { given = test_of k absent [] f; within = h }
+fine_back b k (Some v) h f =
     record { given = ap (has_data k) (sym (ap length (append-nil (viewed b v)) ∙ view_long b v h)) ∙ test_of k (present (viewed b v)) [] f; within = h }
 
 -- ---- the bytes s are read as the notification m, whose view points into b, to their end

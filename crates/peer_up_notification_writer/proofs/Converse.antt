@@ -25,16 +25,16 @@ use Rattle.models.specs.declared.IpAddr.{IpAddr}
 use Rattle.models.proofs.Promises.{equals_is_equality}
 use Rattle.per_peer_type.specs.declared.BmpPeerType.{BmpPeerType}
 use Rattle.peer_up_notification.specs.Grammar.{message_bytes, ReadTlv, skipped_for, Reading, join, places}
-use Rattle.peer_up_notification.specs.Shown.{info_of, zero_tlv, entry, tlvs_at, shown_address, shown, kept}
+use Rattle.peer_up_notification.specs.Shown.{ReadPeerUp, message_in, info_of, zero_tlv, entry, tlvs_at, shown_address, shown, kept}
 use Rattle.peer_up_notification.specs.Told.{open_of}
 use Rattle.peer_up_notification.specs.Read.{reader}
 use Rattle.peer_up_notification_writer.specs.Write.{part_of, address_writable, open_writable, writer, bytes_of, tlvs_writable, writable, Typed, SameTlv, Same}
 use Rattle.peer_up_notification.specs.declared.PeerUpNotificationTlv.{PeerUpNotificationTlv}
 use Rattle.peer_up_notification.specs.declared.PeerUpNotification.{PeerUpNotification}
-use Rattle.peer_up_notification.specs.declared.PeerUpAnswer.{PeerUpAnswer}
 use Rattle.peer_up_notification.proofs.Address.{address_shown}
 use Rattle.peer_up_notification.proofs.Opens.{OneMessage, one_message}
-use Rattle.peer_up_notification_writer.proofs.Written.{entries, open_from}
+use Rattle.peer_up_notification_writer.specs.Entries.{entries}
+use Rattle.peer_up_notification_writer.proofs.Written.{open_from}
 use Rattle.peer_up_notification.proofs.Shows.{ViewAt, ShowsParts}
 use Rattle.peer_up_notification_writer.proofs.Trip.{ReadsBack}
 
@@ -83,7 +83,7 @@ bytes_written m b p t =
 -- ---- the whole record
 module _ (peer : BmpPeerType) (m : PeerUpNotification) (b : List ℕ) (p : Bytes b) (t : Typed m) (inside : Inside m b) (q : Reading)
     (x : Shows (reader m.local_addr.afi peer) (bytes_of m b) q) (v : ShowsParts (bytes_of m b) (shown m.local_addr.afi peer q) q)
-    (same : Same m b (shown m.local_addr.afi peer q).message (bytes_of m b)) where
+    (same : Same m b (message_in (shown m.local_addr.afi peer q)) (bytes_of m b)) where
   address-fits : address_writable m.local_addr ≡ true
   address-fits =
       let a = m.local_addr in
@@ -129,4 +129,4 @@ pub writable_from : (peer : BmpPeerType) (m : PeerUpNotification) (b : List ℕ)
 writable_from peer m b p t inside q x v r =
     let afi = m.local_addr.afi in
     all_fits peer m b p t inside q x (subst (λ (z : List ℕ). ShowsParts z (shown afi peer q) q) x.reading.joined v)
-    (subst (λ (a : PeerUpAnswer). Same m b a.message (bytes_of m b)) x.shown_so r.same)
+    (subst (λ (a : ReadPeerUp). Same m b (message_in a) (bytes_of m b)) x.shown_so r.same)

@@ -8,9 +8,8 @@ use native.Mathlib.Omega.{arith}
 use lib.ListN.{length, take, length-take}
 use Rattle.wire.specs.Number as Number
 use Rattle.wire.specs.Bytes.{Bytes}
-use Rattle.writing.specs.Write.{length_of, Wrote}
-use Rattle.writing.specs.declared.WriteAnswer.{WriteAnswer}
-use Rattle.writing.specs.declared.WriteAnswer.TheVariants.{Written}
+use Rattle.std.specs.declared.result.Result.TheVariants.{Ok}
+use Rattle.writing.specs.Write.{WriteAnswer, length_of, Wrote}
 use Rattle.writing.proofs.Answers.{front, wrote_determined}
 use Rattle.writing.proofs.Table.{length_parts}
 use Rattle.per_peer_type.specs.declared.BmpPeerType.{BmpPeerType}
@@ -29,7 +28,7 @@ use Rattle.peer_up_notification.proofs.Promises.{complete, sound, views}
 pub round_trip : (peer : BmpPeerType) (m : PeerUpNotification) (b out out' : List ℕ) (a : WriteAnswer) → Bytes b → Typed m
     → Wrote (writable m b) (bytes_of m b) out a out'
     → writable m b ≡ true → length (bytes_of m b) ≤ Number.limit → length (bytes_of m b) ≤ length out
-    → (a ≡ Written (length (bytes_of m b))) × ReadsBack peer m b (take (length_of a) out')
+    → (a ≡ Ok (length (bytes_of m b))) × ReadsBack peer m b (take (length_of a) out')
 round_trip peer m b out out' a p t wrote w short room =
     let afi = m.local_addr.afi in
     let x = writes_of m b w in

@@ -17,13 +17,13 @@ use Rattle.tlv_table.proofs.Table.{bodied}
 use Rattle.tlv_table.proofs.Written.{part_good}
 use Rattle.per_peer_type.specs.declared.BmpPeerType.{BmpPeerType}
 use Rattle.peer_up_notification.specs.Grammar.{ReadTlv, skipped_for, Good}
-use Rattle.peer_up_notification.specs.Shown.{zero_tlv, entry, tlvs_at, shown, kept}
+use Rattle.peer_up_notification.specs.Shown.{ReadPeerUp, refusal_of, stop_of, message_in, zero_tlv, entry, tlvs_at, shown, kept}
 use Rattle.peer_up_notification.specs.Read.{read_peer_up}
 use Rattle.peer_up_notification_writer.specs.Write.{writer, reading_of, bytes_of, Typed, SameTlv, Same}
 use Rattle.peer_up_notification.specs.declared.PeerUpNotification.{PeerUpNotification}
-use Rattle.peer_up_notification.specs.declared.PeerUpAnswer.{PeerUpAnswer}
 use Rattle.peer_up_notification.proofs.Opens.{open_good, open_back}
-use Rattle.peer_up_notification_writer.proofs.Written.{entries, one_of, Writes, length_bytes}
+use Rattle.peer_up_notification_writer.specs.Entries.{entries}
+use Rattle.peer_up_notification_writer.proofs.Written.{one_of, Writes, length_bytes}
 use Rattle.peer_up_notification.proofs.Shows.{address-field, ViewAt, ShowsParts}
 
 pub good_of : (m : PeerUpNotification) (b : List ℕ) → Bytes b → Typed m → Writes m b → Good m.local_addr.afi (reading_of m b)
@@ -44,9 +44,9 @@ good_of m b p t w =
 
 -- the bytes s are read as the record m, whose views point into b, to their end
 pub record ReadsBack (peer : BmpPeerType) (m : PeerUpNotification) (b s : List ℕ) : Type 0 where
-  pub read_good : (read_peer_up m.local_addr.afi peer s).refusal.number ≡ Number.Good
-  pub whole : (read_peer_up m.local_addr.afi peer s).stop ≡ length s
-  pub same : Same m b (read_peer_up m.local_addr.afi peer s).message s
+  pub read_good : (refusal_of (read_peer_up m.local_addr.afi peer s)).number ≡ Number.Good
+  pub whole : stop_of (read_peer_up m.local_addr.afi peer s) ≡ length s
+  pub same : Same m b (message_in (read_peer_up m.local_addr.afi peer s)) s
 
 pub reads_back : (peer : BmpPeerType) (m : PeerUpNotification) (b : List ℕ) → Bytes b → Typed m → Writes m b
     → read_peer_up m.local_addr.afi peer (bytes_of m b) ≡ shown m.local_addr.afi peer (reading_of m b)
@@ -57,11 +57,11 @@ reads_back peer m b p t w a v =
     let fine = w.table.fine in
     let few : m.count ≤ length m.tlvs = omega (arith, t.table_long, w.table.few) in
     record {
-      read_good = ap (λ (y : PeerUpAnswer). y.refusal.number) a;
-      whole = ap (λ (y : PeerUpAnswer). y.stop) a
+      read_good = ap (λ (y : ReadPeerUp). (refusal_of y).number) a;
+      whole = ap stop_of a
           ∙ end_sizes writer size_of entry (ViewAt s) b (λ n t o. refl) (kept m) (tlvs_at (reading_of m b)) fine
           ∙ omega (arith, length_bytes m b w.front t.octets.many p, length_joined writer (bodied entries) b (kept m) fine, w.front.sent.size_is, w.front.received.size_is);
-      same = subst (λ (y : PeerUpAnswer). Same m b y.message s) (sym a) (record {
+      same = subst (λ (y : ReadPeerUp). Same m b (message_in y) s) (sym a) (record {
         address_same = sym w.front.address_is;
         local_port_same = refl;
         remote_port_same = refl;

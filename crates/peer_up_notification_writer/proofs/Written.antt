@@ -14,27 +14,23 @@ use Rattle.wire.specs.View.{inside, viewed}
 use Rattle.wire.specs.declared.View.{View}
 use Rattle.wire.proofs.Bytes.{number_is}
 use Rattle.wire.proofs.Views.{inside_is, bytes_viewed}
-use Rattle.writing.specs.Table.{joined, all_ok}
+use Rattle.writing.specs.Table.{joined, all_ok, sizes}
 use Rattle.writing.specs.Write.{put_at}
 use Rattle.writing.proofs.Sets.{sets_append, put_then, put_fits, length_put}
 use Rattle.writing.proofs.Tlv.{view_long}
-use Rattle.writing.proofs.Table.{Kept, kept_of}
-use Rattle.tlv_table.proofs.Table.{Entries}
+use Rattle.writing.proofs.Table.{Kept, kept_of, length_joined}
+use Rattle.tlv_table.proofs.Table.{bodied}
 use Rattle.addresses.specs.Address.{shown_ip}
 use Rattle.models.specs.declared.IpAddr.{IpAddr}
 use Rattle.models.proofs.Promises.{equals_is_equality}
 use Rattle.peer_up_notification.specs.Grammar.{message_bytes, skipped_for, places}
 use Rattle.peer_up_notification.specs.Shown.{shown_address, kept}
 use Rattle.peer_up_notification.specs.Told.{open_of}
-use Rattle.peer_up_notification_writer.specs.Write.{address_writable, open_writable, writer, bytes_of, tlvs_writable, front_writable, writable, endpoint_bytes, open_bytes, front_bytes, front_length, entry_of}
+use Rattle.peer_up_notification_writer.specs.Write.{address_writable, open_writable, writer, bytes_of, tlvs_writable, front_writable, writable, endpoint_bytes, open_bytes, front_bytes, front_length}
+use Rattle.peer_up_notification_writer.specs.Entries.{entries}
 use Rattle.peer_up_notification.specs.declared.PeerUpNotification.{PeerUpNotification}
 use Rattle.peer_up_notification.proofs.Address.{address_shown}
 use Rattle.peer_up_notification.proofs.Opens.{OneMessage, open_back}
-
--- ---- what is put for one TLV
-pub entries : Entries writer entry_of
-unfolding be
-entries = record { put_is = λ b t r. refl; fine = λ room after t e. e; size_is = λ t. refl }
 
 -- ---- a BGP message
 pub record FineOpen (b : List ℕ) (v : View) : Type 0 where
@@ -114,6 +110,9 @@ front_of m b e =
       sent = open-of b m.sent_open s.0;
       received = open-of b m.received_open s.1;
     }
+
+pub front_small : (m : PeerUpNotification) (b : List ℕ) → front_ok m b ≡ true → (m.sent_open.length < 65536) × (m.received_open.length < 65536)
+front_small m b e = let f = front_of m b e in (omega (arith, f.sent.size_fits), omega (arith, f.received.size_fits))
 
 -- ---- the whole record
 pub record Writes (m : PeerUpNotification) (b : List ℕ) : Type 0 where
@@ -217,3 +216,18 @@ front_put m b out o1 o2 sixteen e1 e2 =
     let opens = open_bytes b m.sent_open m.received_open in
     e2 ∙ ap₂ (λ (o : List ℕ) (k : ℕ). sets o k opens) e1 (sym (zero-add (length ends) ∙ length_endpoints m.local_addr m.local_port m.remote_port sixteen))
     ∙ sym (sets_append ends opens out 0)
+
+-- ---- the whole: how many bytes a writable record takes, and that they are put
+module _ (m : PeerUpNotification) (b : List ℕ) (p : Bytes b) (sixteen : length m.local_addr.octets ≡ 16) where
+  pub bytes_long : writable m b ≡ true → length (bytes_of m b) ≡ front_length m + sizes writer (kept m)
+  bytes_long e =
+      let w = writes_of m b e in
+      length_bytes m b w.front sixteen p ∙ ap (λ (n : ℕ). front_length m + n) (length_joined writer (bodied entries) b (kept m) w.table.fine)
+
+  pub put_whole : FineFront m b → (out o1 o2 o3 : List ℕ) → o1 ≡ sets out 0 (endpoint_bytes m.local_addr m.local_port m.remote_port)
+      → o2 ≡ sets o1 20 (open_bytes b m.sent_open m.received_open) → o3 ≡ sets o2 (front_length m) (joined writer b (kept m)) → o3 ≡ sets out 0 (bytes_of m b)
+  put_whole w out o1 o2 o3 e1 e2 e3 =
+      let t = joined writer b (kept m) in
+      let at : front_length m ≡ 0 + length (front_bytes m b) = sym (zero-add (length (front_bytes m b)) ∙ length_front m b w sixteen) in
+      e3 ∙ ap₂ (λ (o : List ℕ) (i : ℕ). sets o i t) (front_put m b out o1 o2 sixteen e1 e2) at ∙ sym (sets_append (front_bytes m b) t out 0)
+      ∙ ap (sets out 0) (sym (bytes_are m b p w))

@@ -10,37 +10,29 @@ ghost use Rattle.per_peer_header.specs.Read.{address_field, as_field};
 ghost use Rattle.per_peer_header_writer.specs.Write.{writable, bytes_of};
 
 use models::{AsnLength, IpAddr};
+use numbers_writer::PutNumber;
 use per_peer_header::PER_PEER_HEADER;
 use per_peer_record::BmpPerPeerHeader;
 use per_peer_type::PerPeerFlags;
-use writing::WriteAnswer;
+use wire::Refusal;
 
 // Writes the header to the front of the output.
-pub fn write_per_peer_header(header: BmpPerPeerHeader, out: &mut [u8]) -> WriteAnswer
+pub fn write_per_peer_header(header: BmpPerPeerHeader, out: &mut [u8]) -> Result<usize, Refusal>
     ensures { Wrote (writable header) (bytes_of header) out.old result out.new }
 {
-    let answer = writing::write_answer(is_writable(header), PER_PEER_HEADER, out.len());
-    let WriteAnswer::Written(_) = answer else {
-        return answer;
-    };
+    let length = writing::write_answer(is_writable(header), PER_PEER_HEADER, out.len())?;
     put_header(header, out);
-    answer
+    Ok(length)
 }
 
 fn is_writable(header: BmpPerPeerHeader) -> bool
     ensures { result ≡ writable header }
 {
-    let peer_type = header.peer_type;
-    let peer_ip = header.peer_ip;
-    let kind = peer_type.number();
+    let kind = header.peer_type.number();
     let flags = header.peer_flags;
-    if !address_fits(kind, flags, peer_ip) {
-        return false;
-    }
-    if !asn_fits(kind, flags, header.peer_asn.0) {
-        return false;
-    }
-    times::is_timestamp(header.timestamp, header.seconds, header.microseconds)
+    address_fits(kind, flags, header.peer_ip)
+        && asn_fits(kind, flags, header.peer_asn.0)
+        && times::is_timestamp(header.timestamp, header.seconds, header.microseconds)
 }
 
 // Whether a reader shows this address again, once its octets are written.
@@ -50,21 +42,16 @@ fn address_fits(kind: u8, flags: PerPeerFlags, address: IpAddr) -> bool
     if kind == per_peer_type::LOCAL_RIB {
         return IpAddr::unspecified().equals(address);
     }
-    let octets = address.octets;
-    addresses::shown_ip(flags.address_family(), octets).equals(address)
+    addresses::shown_ip(flags.address_family(), address.octets).equals(address)
 }
 
 // The number of a Loc-RIB's AS has all four bytes, whatever its flags hold.
 fn asn_fits(kind: u8, flags: PerPeerFlags, asn: u32) -> bool
     ensures { result ≡ eqb (shown_asn (as_field kind flags.0 asn)) asn }
 {
-    if kind == per_peer_type::LOCAL_RIB {
-        return true;
-    }
-    match flags.asn_length() {
-        AsnLength::Bits16 => asn < 65_536,
-        AsnLength::Bits32 => true,
-    }
+    kind == per_peer_type::LOCAL_RIB
+        || asn < 65_536
+        || matches!(flags.asn_length(), AsnLength::Bits32)
 }
 
 // In a writable header the octets that are skipped on reading are zero, so all sixteen are put as they are.
@@ -73,15 +60,12 @@ fn put_header(header: BmpPerPeerHeader, out: &mut [u8])
     requires in_bounds { 42 ≤ length out.old }
     ensures { out.new ≡ sets out.old 0 (bytes_of header) }
 {
-    let peer_type = header.peer_type;
-    let peer_ip = header.peer_ip;
-    let octets = peer_ip.octets;
-    numbers_writer::put_u8(out, 0, peer_type.number());
-    numbers_writer::put_u8(out, 1, header.peer_flags.0);
-    numbers_writer::put_u64(out, 2, header.peer_distinguisher.0);
-    writing::put_bytes(out, 10, &octets);
-    numbers_writer::put_u32(out, 26, header.peer_asn.0);
-    numbers_writer::put_u32(out, 30, header.peer_bgp_id.0);
-    numbers_writer::put_u32(out, 34, header.seconds);
-    numbers_writer::put_u32(out, 38, header.microseconds);
+    header.peer_type.number().put(out, 0);
+    header.peer_flags.0.put(out, 1);
+    header.peer_distinguisher.0.put(out, 2);
+    writing::put_bytes(out, 10, &header.peer_ip.octets);
+    header.peer_asn.0.put(out, 26);
+    header.peer_bgp_id.0.put(out, 30);
+    header.seconds.put(out, 34);
+    header.microseconds.put(out, 38);
 }

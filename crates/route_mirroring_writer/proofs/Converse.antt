@@ -13,13 +13,12 @@ use Rattle.route_mirroring.specs.Read.{reader}
 use Rattle.writing.proofs.Trip.{table_good, table_fine}
 use Rattle.tlv_table.proofs.Written.{good_part}
 use Rattle.route_mirroring.specs.Grammar.{Tlv, bgp_message, information, put, Reading, join, ReadTlv, places, size_of}
-use Rattle.route_mirroring.specs.Shown.{value_of, zero_tlv, entry}
-use Rattle.route_mirroring_writer.specs.Write.{value_part, part_of, writer, bytes_of, writable, SameTlv, Same}
+use Rattle.route_mirroring.specs.Shown.{ReadMirroring, value_of, zero_tlv, entry}
+use Rattle.route_mirroring_writer.specs.Write.{value_part, part_of, writer, bytes_of, writable, SameTlv, SameRead}
 use Rattle.route_mirroring.specs.declared.RouteMirroringValue.{RouteMirroringValue}
 use Rattle.route_mirroring.specs.declared.RouteMirroringValue.TheVariants.{BgpMessage, Information}
 use Rattle.route_mirroring.specs.declared.RouteMirroringTlv.{RouteMirroringTlv}
 use Rattle.route_mirroring.specs.declared.RouteMirroring.{RouteMirroring}
-use Rattle.route_mirroring.specs.declared.RouteMirroringAnswer.{RouteMirroringAnswer}
 use Rattle.route_mirroring_writer.proofs.Written.{Known, FineValue, Fine, fine_from, long_of, put_long}
 use Rattle.route_mirroring.proofs.Shows.{ViewAt}
 use Rattle.route_mirroring_writer.proofs.Trip.{ReadsBack}
@@ -93,7 +92,7 @@ pub writable_from : (m : RouteMirroring) (b : List ℕ) → length m.tlvs ≡ pl
     → ReadsBack m b (bytes_of m b) → writable m (length b) ≡ true
 writable_from m b long inside two q x view-so r =
     let s = bytes_of m b in
-    let same = subst (λ (a : RouteMirroringAnswer). Same m b a.message s) x.shown_so r.same in
+    let same = subst (λ (a : ReadMirroring). SameRead m b a s) x.shown_so r.same in
     let few : m.count ≤ places = omega (arith, same.count_same, x.reading.fits) in
     let v : AllAt size_of (ViewAt s) 0 q.tlvs = subst (λ (z : List ℕ). AllAt size_of (ViewAt z) 0 q.tlvs) x.reading.joined view-so in
     let rest = replicate (places - length q.tlvs) zero_tlv in

@@ -15,16 +15,16 @@ use Rattle.writing.proofs.Trip.{table_same, end_sizes}
 use Rattle.tlv_table.proofs.Table.{bodied}
 use Rattle.tlv_table.proofs.Written.{part_good}
 use Rattle.route_mirroring.specs.Grammar.{ReadTlv, Good, places, size_of}
-use Rattle.route_mirroring.specs.Shown.{code_of, value_of, zero_tlv, entry, shown}
+use Rattle.route_mirroring.specs.Shown.{ReadMirroring, refusal_of, stop_of, code_of, value_of, zero_tlv, entry, shown}
 use Rattle.route_mirroring.specs.Read.{read_mirroring}
-use Rattle.route_mirroring_writer.specs.Write.{value_part, part_of, writer, kept, reading_of, bytes_of, SameTlv, Same}
+use Rattle.route_mirroring_writer.specs.Write.{value_part, part_of, writer, kept, reading_of, bytes_of, SameTlv, SameRead}
 use Rattle.route_mirroring.specs.declared.RouteMirroringInfo.{RouteMirroringInfo}
 use Rattle.route_mirroring.specs.declared.RouteMirroringInfo.TheVariants.{ErroredPdu, MessageLost}
 use Rattle.route_mirroring.specs.declared.RouteMirroringValue.{RouteMirroringValue}
 use Rattle.route_mirroring.specs.declared.RouteMirroringValue.TheVariants.{BgpMessage, Information}
 use Rattle.route_mirroring.specs.declared.RouteMirroring.{RouteMirroring}
-use Rattle.route_mirroring.specs.declared.RouteMirroringAnswer.{RouteMirroringAnswer}
-use Rattle.route_mirroring_writer.proofs.Written.{Known, FineValue, fine_of, entries}
+use Rattle.route_mirroring_writer.specs.Entries.{entries}
+use Rattle.route_mirroring_writer.proofs.Written.{Known, FineValue, fine_of}
 use Rattle.route_mirroring.proofs.Shows.{ViewAt, code_told}
 
 info_known : (i : RouteMirroringInfo) → code_of i ≤ 1
@@ -58,9 +58,9 @@ size_value b size (Information i) f = omega (arith, f)
 
 -- the bytes s are read as the record m, whose views point into b, to their end
 pub record ReadsBack (m : RouteMirroring) (b s : List ℕ) : Type 0 where
-  pub read_good : (read_mirroring s).refusal.number ≡ Number.Good
-  pub whole : (read_mirroring s).stop ≡ length s
-  pub same : Same m b (read_mirroring s).message s
+  pub read_good : (refusal_of (read_mirroring s)).number ≡ Number.Good
+  pub whole : stop_of (read_mirroring s) ≡ length s
+  pub same : SameRead m b (read_mirroring s) s
 
 pub reads_back : (m : RouteMirroring) (b : List ℕ) → length m.tlvs ≡ places → Kept writer places m.count m.tlvs (length b)
     → read_mirroring (bytes_of m b) ≡ shown (reading_of m b) → AllAt size_of (ViewAt (bytes_of m b)) 0 (reading_of m b).tlvs
@@ -69,11 +69,11 @@ reads_back m b long x a v =
     let s = bytes_of m b in
     let few : m.count ≤ length m.tlvs = omega (arith, long, x.few) in
     record {
-      read_good = ap (λ (y : RouteMirroringAnswer). y.refusal.number) a;
-      whole = ap (λ (y : RouteMirroringAnswer). y.stop) a
+      read_good = ap (λ (y : ReadMirroring). (refusal_of y).number) a;
+      whole = ap stop_of a
           ∙ end_sizes writer size_of entry (ViewAt s) b (λ n t o. size_value b t.info_len (value_of t) (fine_of (length b) t o).fine_value) (kept m) 0 x.fine
           ∙ omega (arith, length_joined writer (bodied entries) b (kept m) x.fine);
-      same = subst (λ (y : RouteMirroringAnswer). Same m b y.message s) (sym a) (record {
+      same = subst (λ (y : ReadMirroring). SameRead m b y s) (sym a) (record {
         count_same = sym (length_parts writer b (kept m) ∙ length-take-le m.count m.tlvs few);
         tlv_same = table_same writer size_of entry (ViewAt s) b (λ t u. SameTlv t b u s) zero_tlv
             (λ n at t o e. same_tlv b s at t.kind t.info_len t.number (fine_of (length b) t o).is_known e) _ m.tlvs m.count 0 few x.fine v;

@@ -1,7 +1,7 @@
 -- What the writing kit asks of a Route Mirroring body. Assumes nothing.
-use mathlib.Core.Path.{◌≡◌, refl, sym, ap, ◌∙◌}
+use mathlib.Core.Path.{◌≡◌, refl, ◌∙◌}
 use mathlib.Core.Bool.{Bool, true, false}
-use mathlib.Core.List.{List, ◌++◌}
+use mathlib.Core.List.{List}
 use Prim.Native.Nat.{ℕ, zero, suc, ◌+◌, ◌≤◌, ◌<◌}
 use native.Mathlib.Omega.{arith}
 use borrow.Author.Tests.{leb-true, le-leb, eqb-true, eq-eqb}
@@ -10,16 +10,19 @@ use lib.ListN.{length, length-append}
 use Rattle.wire.specs.Bytes.{pick, be}
 use Rattle.wire.specs.declared.View.{View}
 use Rattle.writing.proofs.Tests.{both}
-use Rattle.tlv_table.specs.Tlvs.{entry_writable, one_tlv}
+use Rattle.writing.specs.Table.{sizes}
+use Rattle.writing.proofs.Table.{length_joined, kept_of}
+use Rattle.tlv_table.specs.Tlvs.{entry_writable}
 use Rattle.tlv_table.specs.declared.TlvValue.TheVariants.{Part}
-use Rattle.tlv_table.specs.declared.TlvEntry.{TlvEntry}
-use Rattle.tlv_table.proofs.Table.{Entries}
-use Rattle.route_mirroring.specs.Grammar.{Tlv, bgp_message, information, put}
+use Rattle.tlv_table.proofs.Table.{bodied}
+use Rattle.route_mirroring.specs.Grammar.{Tlv, bgp_message, information, put, places}
 use Rattle.route_mirroring.specs.Shown.{value_of}
-use Rattle.route_mirroring_writer.specs.Write.{value_part, known, has_header, headed_writable, tlv_writable, writer, value_entry, entry_of}
+use Rattle.route_mirroring_writer.specs.Write.{known, headed_writable, tlv_writable, writer, value_entry, entry_of, kept, bytes_of, writable}
 use Rattle.route_mirroring.specs.declared.RouteMirroringValue.{RouteMirroringValue}
 use Rattle.route_mirroring.specs.declared.RouteMirroringValue.TheVariants.{BgpMessage, Information}
 use Rattle.route_mirroring.specs.declared.RouteMirroringTlv.{RouteMirroringTlv}
+use Rattle.route_mirroring.specs.declared.RouteMirroring.{RouteMirroring}
+use Rattle.route_mirroring_writer.specs.Entries.{entries}
 
 -- ---- what `tlv_writable` asks: a type and a code that the reader shows, and a value that fits
 pub record Known (kind number : ℕ) : Type 0 where
@@ -81,29 +84,6 @@ unfolding tlv_writable
 fine_from room t f =
     rw (known_from t.kind t.info_len t.number f.is_known) (value_from room t.info_len (value_of t) f.fine_value)
 
--- where type and code are known, the entry decides
-pub entry_decides : (room : ℕ) (t : RouteMirroringTlv) (e : TlvEntry) → known t ≡ true → e ≡ entry_of t → headed_writable room e ≡ tlv_writable room t
-unfolding tlv_writable
-entry_decides room t e k p = ap (headed_writable room) p ∙ ap (λ (a : Bool). pick a (headed_writable room (entry_of t)) false) (sym k)
-
--- ---- what is put for one TLV
-value_size : (size : ℕ) (x : RouteMirroringValue) → (value_entry size x).size ≡ size
-value_size size (BgpMessage v) = refl
-value_size size (Information i) = refl
-
-put_same : (b : List ℕ) (size : ℕ) (x : RouteMirroringValue) (r : List ℕ) → put (value_part b size x) r ≡ one_tlv b (value_entry size x) ++ r
-unfolding be
-put_same b size (BgpMessage v) r = refl
-put_same b size (Information i) r = refl
-
-pub entries : Entries writer entry_of
-entries =
-    record {
-      put_is = λ b t r. put_same b t.info_len (value_of t) r;
-      fine = λ room after t e. (both (has_header (entry_of t).size (entry_of t).value) _ (both_of room t e).1).1;
-      size_is = λ t. ap (λ (n : ℕ). 4 + n) (value_size t.info_len (value_of t));
-    }
-
 -- ---- how long an item is
 abbrev pub long_of : Tlv → ℕ
 long_of (bgp_message size value) = 4 + length value
@@ -113,3 +93,7 @@ pub put_long : (t : Tlv) (r : List ℕ) → length (put t r) ≡ long_of t + len
 unfolding be
 put_long (bgp_message size value) r = omega (arith, length-append value r)
 put_long (information size code) r = omega arith
+
+-- ---- how many bytes a writable record takes
+pub bytes_long : (m : RouteMirroring) (b : List ℕ) → writable m (length b) ≡ true → length (bytes_of m b) ≡ 0 + sizes writer (kept m)
+bytes_long m b e = length_joined writer (bodied entries) b (kept m) (kept_of writer places m.count m.tlvs (length b) e).fine ∙ omega arith

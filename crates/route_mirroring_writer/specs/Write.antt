@@ -1,5 +1,5 @@
 -- What the writer writes: the reading of a record, by the grammar's own parts; which records are writable; when two are the same.
-use Rattle.std.specs.Prelude.{ℕ, ◌+◌, ◌<◌, ◌≡◌, Bool, true, false, List, [], take, get_or, leb, ltb, eqb}
+use Rattle.std.specs.Prelude.{ℕ, ◌+◌, ◌<◌, ◌≡◌, Bool, true, false, List, [], take, get_or, leb, ltb, eqb, Ok, Err}
 use Rattle.wire.specs.Bytes.{pick}
 use Rattle.wire.specs.View.{viewed}
 use Rattle.writing.specs.Table.{Writer, parts, all_ok}
@@ -8,7 +8,7 @@ use Rattle.tlv_table.specs.declared.TlvValue.{TlvValue}
 use Rattle.tlv_table.specs.declared.TlvValue.TheVariants.{Part, Number}
 use Rattle.tlv_table.specs.declared.TlvEntry.{TlvEntry}
 use Rattle.route_mirroring.specs.Grammar.{Tlv, bgp_message, information, put, Reading, join, places}
-use Rattle.route_mirroring.specs.Shown.{code_of, value_of, zero_tlv}
+use Rattle.route_mirroring.specs.Shown.{ReadMirroring, code_of, value_of, zero_tlv}
 use Rattle.route_mirroring.specs.declared.RouteMirroringValue.{RouteMirroringValue}
 use Rattle.route_mirroring.specs.declared.RouteMirroringValue.TheVariants.{BgpMessage, Information}
 use Rattle.route_mirroring.specs.declared.RouteMirroringTlv.{RouteMirroringTlv}
@@ -90,3 +90,8 @@ pub record SameTlv (t : RouteMirroringTlv) (b : List ℕ) (u : RouteMirroringTlv
 pub record Same (m : RouteMirroring) (b : List ℕ) (n : RouteMirroring) (s : List ℕ) : Type 0 where
   pub count_same : m.count ≡ n.count
   pub tlv_same : (i : ℕ) → i < m.count → SameTlv (get_or m.tlvs i zero_tlv) b (get_or n.tlvs i zero_tlv) s
+
+-- what a reader answers shows the same record
+abbrev pub SameRead : RouteMirroring → List ℕ → ReadMirroring → List ℕ → Type 0
+SameRead m b (Ok a) s = Same m b a.message s
+SameRead m b (Err r) s = ⊥

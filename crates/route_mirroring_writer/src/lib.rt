@@ -3,67 +3,75 @@
 
 ghost use Rattle.std.specs.Prelude.{◌≡◌, length};
 ghost use Rattle.writing.specs.Write.{Wrote};
-ghost use Rattle.route_mirroring_writer.specs.Write.{known, tlv_writable, has_header, entry_of, bytes_of, writable};
+ghost use Rattle.tlv_table.specs.Tlvs.{one_tlv};
+ghost use Rattle.tlv_table.proofs.Table.{bodied};
+ghost use Rattle.route_mirroring_writer.specs.Write.{writer, known, has_header, entry_of, bytes_of, writable};
+ghost use Rattle.route_mirroring_writer.specs.Entries.{entries};
 
 use route_mirroring::{RouteMirroring, RouteMirroringTlv, RouteMirroringValue};
+use table_writer::Table;
 use tlv_table::{TlvEntry, TlvValue};
-use writing::WriteAnswer;
+use wire::Refusal;
 
 // Writes the message, whose views point into the buffer, to the front of the output. The table is judged and measured in one pass
 // and written in a second, where it stands.
-pub fn write_route_mirroring(message: RouteMirroring, buffer: &[u8], out: &mut [u8]) -> WriteAnswer
+#[tactic(auto, using(writing::proofs::Answers::left_alone, writing::proofs::Answers::put_there, crate::proofs::Written::bytes_long))]
+pub fn write_route_mirroring(
+    message: RouteMirroring,
+    buffer: &[u8],
+    out: &mut [u8],
+) -> Result<usize, Refusal>
     ensures { Wrote (writable message (length buffer.now)) (bytes_of message buffer.now) out.old result out.new }
 {
     let count = message.count;
     if wire::TLV_PLACES < count {
         return writing::write_answer(false, 0, out.len());
     }
-    let mut length: usize = 0;
-    let mut i: usize = 0;
-    while i < count {
-        let tlv = message.tlvs[i];
-        if !tlv_writable(tlv, buffer.len()) {
-            return writing::write_answer(false, 0, out.len());
-        }
-        let entry = entry_of(tlv);
-        length += tlv_table::tlv_length(entry);
-        i += 1;
-    }
-    let answer = writing::write_answer(true, length, out.len());
-    let WriteAnswer::Written(_) = answer else {
-        return answer;
-    };
-    let mut at: usize = 0;
-    let mut k: usize = 0;
-    while k < count {
-        let tlv = message.tlvs[k];
-        let entry = entry_of(tlv);
-        tlv_table::put_entry(out, at, entry, buffer);
-        at += tlv_table::tlv_length(entry);
-        k += 1;
-    }
-    answer
+    let tlvs = &message.tlvs[..count];
+    let length = table_writer::answer::<Tlvs>(0, tlvs, buffer.len(), out.len())?;
+    table_writer::put_all::<Tlvs>(out, 0, tlvs, buffer);
+    Ok(length)
 }
 
-fn tlv_writable(tlv: RouteMirroringTlv, buffer_length: usize) -> bool
-    ensures { result ≡ tlv_writable buffer_length tlv }
-{
-    if !is_known(tlv) {
-        return false;
+struct Tlvs;
+
+impl Table for Tlvs {
+    type Entry = RouteMirroringTlv;
+
+    ghost Item = { writer.Item };
+
+    ghost part = { writer.part };
+
+    ghost put_item = { writer.put };
+
+    ghost ok = { writer.ok };
+
+    ghost size = { writer.size };
+
+    ghost one = { λ b t. one_tlv b (entry_of t) };
+
+    ghost bodied = { bodied entries };
+
+    #[tactic(auto, unfolding(crate::specs::Write::tlv_writable))]
+    fn is_writable(tlv: RouteMirroringTlv, buffer_length: usize, _after: usize) -> bool {
+        let entry = entry_of(tlv);
+        is_known(tlv) && has_header(entry) && tlv_table::entry_writable(entry, buffer_length)
     }
-    let entry = entry_of(tlv);
-    if !has_header(entry) {
-        return false;
+
+    fn length(tlv: RouteMirroringTlv) -> usize {
+        tlv_table::tlv_length(entry_of(tlv))
     }
-    tlv_table::entry_writable(entry, buffer_length)
+
+    fn put(out: &mut [u8], at: usize, tlv: RouteMirroringTlv, buffer: &[u8]) {
+        tlv_table::put_entry(out, at, entry_of(tlv), buffer);
+    }
 }
 
 // A part is a BGP message, which has at least its header.
 fn has_header(entry: TlvEntry) -> bool
     ensures { result ≡ has_header entry.size entry.value }
 {
-    let value = entry.value;
-    match value {
+    match entry.value {
         TlvValue::Part(_) => wire::BGP_HEADER <= (entry.size as usize),
         TlvValue::Number(_) => true,
     }
@@ -73,8 +81,7 @@ fn has_header(entry: TlvEntry) -> bool
 fn is_known(tlv: RouteMirroringTlv) -> bool
     ensures { result ≡ known tlv }
 {
-    let kind = tlv.kind;
-    match kind {
+    match tlv.kind {
         0 => true,
         1 => tlv.number <= 1,
         _ => false,
@@ -88,12 +95,12 @@ fn entry_of(tlv: RouteMirroringTlv) -> TlvEntry
     match tlv.value() {
         RouteMirroringValue::BgpMessage(view) => TlvEntry {
             kind: 0,
-            size: size,
+            size,
             value: TlvValue::Part(view),
         },
         RouteMirroringValue::Information(info) => TlvEntry {
             kind: 1,
-            size: size,
+            size,
             value: TlvValue::Number(info.code()),
         },
     }

@@ -10,20 +10,18 @@ use Rattle.wire.specs.Number as Number
 use Rattle.wire.specs.Bytes.{Bytes}
 use Rattle.wire.proofs.Views.{bytes_viewed}
 use Rattle.writing.proofs.Tlv.{view_long}
-use Rattle.writing.specs.Write.{length_of, Wrote}
-use Rattle.writing.specs.declared.WriteAnswer.{WriteAnswer}
-use Rattle.writing.specs.declared.WriteAnswer.TheVariants.{Written}
+use Rattle.std.specs.declared.result.Result.TheVariants.{Ok}
+use Rattle.writing.specs.Write.{WriteAnswer, length_of, Wrote}
 use Rattle.writing.proofs.Answers.{front, wrote_determined}
 use Rattle.models.specs.declared.AsnLength.{AsnLength}
 use Rattle.per_peer_type.specs.declared.BmpPeerType.{BmpPeerType}
 use Rattle.route_monitoring.specs.Grammar.{join, Good}
-use Rattle.route_monitoring.specs.Shown.{refusal_of, stop_of, message_of}
+use Rattle.route_monitoring.specs.Shown.{RouteMonitoringAnswer, refusal_of, stop_of, message_of}
 use Rattle.route_monitoring.specs.Told.{parts_of}
 use Rattle.route_monitoring.specs.Read.{read_route_monitoring}
 use Rattle.route_monitoring_writer.specs.Write.{bytes_of, writable, Same}
 use Rattle.route_monitoring_writer.specs.Unwritable.{Unwritable}
 use Rattle.route_monitoring.specs.declared.RouteMonitoring.{RouteMonitoring}
-use Rattle.route_monitoring.specs.declared.RouteMonitoringAnswer.{RouteMonitoringAnswer}
 use Rattle.route_monitoring.proofs.Laws.{join_parts, parts_good, accepted, shows_all}
 use Rattle.route_monitoring_writer.proofs.Written.{fine_of, fine_from}
 use Rattle.route_monitoring_writer.proofs.Unwritable.{listed}
@@ -55,7 +53,7 @@ reads_back width t m b w short =
 pub round_trip : (m : RouteMonitoring) (b out out' : List ℕ) (a : WriteAnswer)
     → Wrote (writable m (length b)) (bytes_of m b) out a out'
     → writable m (length b) ≡ true → length (bytes_of m b) ≤ Number.limit → length (bytes_of m b) ≤ length out
-    → (width : AsnLength) (t : BmpPeerType) → (a ≡ Written (length (bytes_of m b))) × ReadsBack width t m b (take (length_of a) out')
+    → (width : AsnLength) (t : BmpPeerType) → (a ≡ Ok (length (bytes_of m b))) × ReadsBack width t m b (take (length_of a) out')
 round_trip m b out out' a wrote w short room width t =
     front (ReadsBack width t m b) wrote w short room (reads_back width t m b w short)
 

@@ -1,6 +1,6 @@
 -- What `data_writable` asks of data, both ways, and the bytes of data. Assumes nothing.
 use mathlib.Core.Path.{◌≡◌, sym, ◌∙◌}
-use mathlib.Core.Bool.{true, false}
+use mathlib.Core.Bool.{true}
 use mathlib.Core.List.{List}
 use mathlib.Core.Logic.{◌⊎◌, inl, inr, ⊎_elim}
 use Prim.Native.Nat.{ℕ, ◌+◌, ◌^◌, ◌≤◌, ◌<◌}
@@ -21,17 +21,11 @@ use Rattle.stats_data_writer.specs.Write.{data_bytes, data_writable}
 use Rattle.stats_data.specs.declared.StatsData.{StatsData}
 use Rattle.stats_data.specs.declared.StatsData.TheVariants.{Counter, Gauge, AfiSafiGauge, Unknown}
 
--- ---- a raw value: its length is that of another form, or not
-abbrev pub OtherForm : ℕ → Type 0
+-- ---- a raw value: its length is that of no other form
+abbrev OtherForm : ℕ → Type 0
 OtherForm size = (size ≡ 4) ⊎ ((size ≡ 8) ⊎ (size ≡ 11))
 
-pub other_form : (buffer_length kind size : ℕ) (v : View) → OtherForm size → data_writable buffer_length kind size (Unknown v) ≡ false
-unfolding data_writable
-other_form buffer_length kind size v (inl e) = rw e
-other_form buffer_length kind size v (inr (inl e)) = rw e
-other_form buffer_length kind size v (inr (inr e)) = rw e
-
-pub no_other_form : (buffer_length kind size : ℕ) (v : View) → (OtherForm size → ⊥) → data_writable buffer_length kind size (Unknown v) ≡ tlv_fits kind size v buffer_length
+no_other_form : (buffer_length kind size : ℕ) (v : View) → (OtherForm size → ⊥) → data_writable buffer_length kind size (Unknown v) ≡ tlv_fits kind size v buffer_length
 unfolding data_writable
 no_other_form buffer_length kind size v h = rw (ne_eqb size 4 (λ e. h (inl e)), ne_eqb size 8 (λ e. h (inr (inl e))), ne_eqb size 11 (λ e. h (inr (inr e))))
 

@@ -19,14 +19,14 @@ use Rattle.stats_data.specs.Grammar.{value_bytes}
 use Rattle.stats_data.specs.Shown.{afi_of, safi_of, number_of, value_in}
 use Rattle.stats_data_writer.proofs.Written.{fine_from, InsideData, data-bytes}
 use Rattle.stats_report.specs.Grammar.{Stat, as_tlv, GoodStat, Reading, join, places, size_of}
-use Rattle.stats_report.specs.Shown.{zero_counter, entry, data_in, shown}
-use Rattle.stats_report_writer.specs.Write.{part_of, plain, writer, kept, bytes_of, writable, SameCounter, Same, counter_writable}
+use Rattle.stats_report.specs.Shown.{ReadStats, zero_counter, entry, data_in}
+use Rattle.stats_report_writer.specs.Write.{part_of, plain, writer, kept, bytes_of, writable, SameCounter, SameRead, counter_writable}
 use Rattle.stats_report.specs.declared.StatCounter.{StatCounter}
 use Rattle.stats_report.specs.declared.StatsReport.{StatsReport}
-use Rattle.stats_report.specs.declared.StatsAnswer.{StatsAnswer}
 use Rattle.stats_report.proofs.Shows.{ViewAt}
 use Rattle.stats_report_writer.proofs.Trip.{ReadsBack}
-use Rattle.stats_report_writer.proofs.Written.{own_from, bodied}
+use Rattle.stats_report_writer.proofs.Written.{own_from}
+use Rattle.stats_report_writer.specs.Entries.{bodied}
 use Rattle.stats_report.proofs.Laws.{behind}
 
 abbrev pub Inside : List ℕ → StatCounter → Type 0
@@ -79,7 +79,7 @@ pub writable_from : (m : StatsReport) (b : List ℕ) → length m.counters ≡ p
     → ReadsBack m b (bytes_of m b) → writable m (length b) ≡ true
 writable_from m b long inside q x view-so r =
     let s = bytes_of m b in
-    let same = subst (λ (a : StatsAnswer). Same m b a.report s) x.shown_so r.same in
+    let same = subst (λ (a : ReadStats). SameRead m b a s) x.shown_so r.same in
     let n : m.count ≡ length q.stats = same.count_same in
     let few : m.count ≤ places = omega (arith, n, x.reading.fits) in
     let count_is : m.stats_count ≡ m.count = same.stats_count_same ∙ x.reading.is_good.count_is ∙ sym n in
@@ -87,7 +87,7 @@ writable_from m b long inside q x view-so r =
     let v : AllAt size_of (ViewAt s) 4 q.stats = subst (λ (z : List ℕ). AllAt size_of (ViewAt z) 4 q.stats) x.reading.joined view-so in
     let rest = replicate (places - length q.stats) zero_counter in
     let same_kept : (i : ℕ) → i < length (kept m) → SameCounter (get_or (kept m) i zero_counter) b (get_or (shown_from size_of entry 4 q.stats ++ rest) i zero_counter) s =
-    kept_each (λ i t. SameCounter t b (get_or (shown q).report.counters i zero_counter) s) m.counters m.count zero_counter same.counter_same in
+    kept_each (λ i t. SameCounter t b (get_or (shown_from size_of entry 4 q.stats ++ rest) i zero_counter) s) m.counters m.count zero_counter same.counter_same in
     let good =
     table_good writer size_of entry (ViewAt s) b (λ t u. SameCounter t b u s) zero_counter (one_part b s)
     rest m.counters m.count 4 q.stats (omega (arith, long, few)) n v same.counter_same

@@ -8,9 +8,8 @@ use native.Mathlib.Omega.{arith}
 use lib.ListN.{length, take, get_or}
 use Rattle.wire.specs.Number as Number
 use Rattle.wire.specs.Bytes.{Bytes}
-use Rattle.writing.specs.Write.{length_of, Wrote}
-use Rattle.writing.specs.declared.WriteAnswer.{WriteAnswer}
-use Rattle.writing.specs.declared.WriteAnswer.TheVariants.{Written}
+use Rattle.std.specs.declared.result.Result.TheVariants.{Ok}
+use Rattle.writing.specs.Write.{WriteAnswer, length_of, Wrote}
 use Rattle.writing.proofs.Answers.{front, wrote_determined}
 use Rattle.stats_report.specs.Grammar.{places}
 use Rattle.stats_report.specs.Shown.{zero_counter}
@@ -27,7 +26,7 @@ use Rattle.stats_report.proofs.Promises.{sound, complete, views}
 pub round_trip : (m : StatsReport) (b out out' : List ℕ) (a : WriteAnswer) → Bytes b → length m.counters ≡ places
     → Wrote (writable m (length b)) (bytes_of m b) out a out'
     → writable m (length b) ≡ true → length (bytes_of m b) ≤ Number.limit → length (bytes_of m b) ≤ length out
-    → (a ≡ Written (length (bytes_of m b))) × ReadsBack m b (take (length_of a) out')
+    → (a ≡ Ok (length (bytes_of m b))) × ReadsBack m b (take (length_of a) out')
 round_trip m b out out' a p long wrote w short room =
     let x = writes_of m (length b) w in
     let g = good_of m b p long x in

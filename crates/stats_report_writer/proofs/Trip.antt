@@ -14,13 +14,13 @@ use Rattle.writing.proofs.Table.{all_good, length_parts}
 use Rattle.writing.proofs.Trip.{table_same, end_sizes}
 use Rattle.stats_data_writer.proofs.Written.{data-bytes}
 use Rattle.stats_report.specs.Grammar.{GoodStat, Good, places, size_of}
-use Rattle.stats_report.specs.Shown.{zero_counter, entry, data_in, shown}
+use Rattle.stats_report.specs.Shown.{ReadStats, refusal_of, stop_of, zero_counter, entry, data_in, shown}
 use Rattle.stats_report.specs.Read.{read_stats}
-use Rattle.stats_report_writer.specs.Write.{part_of, counter_writable, writer, kept, reading_of, bytes_of, SameCounter, Same}
+use Rattle.stats_report_writer.specs.Write.{part_of, counter_writable, writer, kept, reading_of, bytes_of, SameCounter, SameRead}
 use Rattle.stats_report.specs.declared.StatCounter.{StatCounter}
 use Rattle.stats_report.specs.declared.StatsReport.{StatsReport}
-use Rattle.stats_report.specs.declared.StatsAnswer.{StatsAnswer}
-use Rattle.stats_report_writer.proofs.Written.{own_of, is_plain, fine, Writes, length_bytes}
+use Rattle.stats_report_writer.proofs.Written.{own_of, is_plain, Writes, length_bytes}
+use Rattle.stats_report_writer.specs.Entries.{fine}
 use Rattle.stats_report.proofs.Shows.{ViewAt}
 
 good_part : (b : List ℕ) → Bytes b → (t : StatCounter) (l : List StatCounter) → counter_writable (length b) t ≡ true → all_ok writer (length b) l ≡ true
@@ -53,9 +53,9 @@ same_counter b s n at t o v =
 
 -- the bytes s are read as the record m, whose views point into b, to their end
 pub record ReadsBack (m : StatsReport) (b s : List ℕ) : Type 0 where
-  pub read_good : (read_stats s).refusal.number ≡ Number.Good
-  pub whole : (read_stats s).stop ≡ length s
-  pub same : Same m b (read_stats s).report s
+  pub read_good : (refusal_of (read_stats s)).number ≡ Number.Good
+  pub whole : stop_of (read_stats s) ≡ length s
+  pub same : SameRead m b (read_stats s) s
 
 pub reads_back : (m : StatsReport) (b : List ℕ) → length m.counters ≡ places → Writes m (length b)
     → read_stats (bytes_of m b) ≡ shown (reading_of m b) → AllAt size_of (ViewAt (bytes_of m b)) 4 (reading_of m b).stats
@@ -63,10 +63,10 @@ pub reads_back : (m : StatsReport) (b : List ℕ) → length m.counters ≡ plac
 reads_back m b long x a v =
     let s = bytes_of m b in
     record {
-      read_good = ap (λ (y : StatsAnswer). y.refusal.number) a;
-      whole = ap (λ (y : StatsAnswer). y.stop) a ∙ end_sizes writer size_of entry (ViewAt s) b (λ n t o. refl) (kept m) 4 x.fine
+      read_good = ap (λ (y : ReadStats). (refusal_of y).number) a;
+      whole = ap stop_of a ∙ end_sizes writer size_of entry (ViewAt s) b (λ n t o. refl) (kept m) 4 x.fine
           ∙ sym (length_bytes m b x);
-      same = subst (λ (y : StatsAnswer). Same m b y.report s) (sym a) (record {
+      same = subst (λ (y : ReadStats). SameRead m b y s) (sym a) (record {
         stats_count_same = refl;
         count_same = sym (parts_count m b long x.few);
         counter_same = table_same writer size_of entry (ViewAt s) b (λ t u. SameCounter t b u s) zero_counter (same_counter b s) _ m.counters m.count 4

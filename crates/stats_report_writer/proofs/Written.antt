@@ -1,5 +1,5 @@
 -- What the writing kit asks of a Statistics body. Assumes nothing.
-use mathlib.Core.Path.{◌≡◌, refl, sym, ◌∙◌}
+use mathlib.Core.Path.{◌≡◌, refl, sym, ap, ◌∙◌}
 use mathlib.Core.Bool.{Bool, true, false}
 use mathlib.Core.List.{List}
 use mathlib.Core.Logic.{inl, inr, ⊎_elim}
@@ -9,23 +9,24 @@ use native.Mathlib.Nat.{mod-eq_of_lt}
 use borrow.Author.Tests.{ltb-true, ltb-false, eqb-true, eqb-false, lt-ltb, eq-eqb, ne_eqb}
 use lib.Dec.{ltb, eqb}
 use lib.ListN.{length}
+use lib.Seq.{sets}
 use Rattle.wire.specs.Bytes.{pick, be}
-use Rattle.writing.specs.Table.{all_ok, sizes}
+use Rattle.writing.specs.Table.{joined, all_ok, sizes}
 use Rattle.writing.proofs.Tests.{both, past}
-use Rattle.writing.proofs.Sets.{length_tlv}
-use Rattle.writing.proofs.Table.{Bodied, length_joined}
+use Rattle.writing.specs.Write.{put_at}
+use Rattle.writing.proofs.Sets.{sets_append, put_fits}
+use Rattle.writing.proofs.Table.{length_joined}
 use Rattle.wire.specs.View.{view}
 use Rattle.wire.specs.Refuses.{OneOf}
 use Rattle.stats_data.specs.Grammar.{Value}
 use Rattle.stats_data.specs.Shown.{afi_of, safi_of, number_of, data_of, value_in}
 use Rattle.stats_data.specs.declared.StatsData.{StatsData}
 use Rattle.stats_data.specs.declared.StatsData.TheVariants.{Counter, Gauge, AfiSafiGauge, Unknown}
-use Rattle.stats_data_writer.specs.Write.{data_bytes}
-use Rattle.stats_data_writer.proofs.Written.{Fine, fine_of}
+use Rattle.stats_report_writer.specs.Entries.{bodied}
 use Rattle.stats_report.specs.Grammar.{places}
 use Rattle.stats_report.specs.Shown.{data_in}
 use Rattle.stats_report.specs.declared.StatCounter.{StatCounter}
-use Rattle.stats_report_writer.specs.Write.{plain, counter_writable, numbered, writer, one_counter, kept, bytes_of, writable}
+use Rattle.stats_report_writer.specs.Write.{plain, counter_writable, numbered, writer, kept, bytes_of, writable}
 use Rattle.stats_report.specs.declared.StatsReport.{StatsReport}
 
 -- ---- the data of an entry, by its length
@@ -98,17 +99,6 @@ own_from b place t = go (formed t)
 pub is_plain : (buffer_length : ℕ) (t : StatCounter) → counter_writable buffer_length t ≡ true → plain t ≡ true
 is_plain buffer_length t e = (both (plain t) _ e).0
 
-pub fine : (b : List ℕ) (t : StatCounter) → counter_writable (length b) t ≡ true → Fine b t.kind t.stat_len (data_in t)
-fine b t e = fine_of b t.kind t.stat_len (data_in t) (both (plain t) _ e).1
-
-pub bodied : Bodied writer one_counter
-unfolding be
-bodied =
-    record {
-      put_is = λ b t r. refl;
-      length_is = λ b n t e. length_tlv t.kind t.stat_len (data_bytes b (data_in t)) ∙ omega (arith, (fine b t e).size_is);
-    }
-
 -- ---- the whole report
 pub record Writes (m : StatsReport) (buffer_length : ℕ) : Type 0 where
   pub few : m.count ≤ places
@@ -124,3 +114,14 @@ writes_of m buffer_length e =
 pub length_bytes : (m : StatsReport) (b : List ℕ) → Writes m (length b) → length (bytes_of m b) ≡ 4 + sizes writer (kept m)
 unfolding be
 length_bytes m b w = omega (arith, length_joined writer bodied b (kept m) w.fine)
+
+pub bytes_long : (m : StatsReport) (b : List ℕ) → writable m (length b) ≡ true → length (bytes_of m b) ≡ 4 + sizes writer (kept m)
+bytes_long m b e = length_bytes m b (writes_of m (length b) e)
+
+-- the count was put, and behind it the table
+pub put_whole : (m : StatsReport) (b out o1 o2 : List ℕ) → 4 ≤ length out → o1 ≡ put_at out 0 (be 4 m.stats_count)
+    → o2 ≡ sets o1 4 (joined writer b (kept m)) → o2 ≡ sets out 0 (bytes_of m b)
+unfolding be
+put_whole m b out o1 o2 h e f =
+    f ∙ ap (λ (o : List ℕ). sets o 4 (joined writer b (kept m))) (e ∙ put_fits out 0 (be 4 m.stats_count) (omega arith))
+    ∙ sym (sets_append (be 4 m.stats_count) (joined writer b (kept m)) out 0)

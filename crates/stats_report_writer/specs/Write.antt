@@ -1,5 +1,5 @@
 -- What the writer writes: the reading of a record, by the grammar's own parts; which records are writable; when two are the same.
-use Rattle.std.specs.Prelude.{ℕ, ◌+◌, ◌^◌, ◌<◌, ◌≡◌, Bool, true, false, List, [], ◌∷◌, take, get_or, ltb, eqb}
+use Rattle.std.specs.Prelude.{ℕ, ◌+◌, ◌^◌, ◌<◌, ◌≡◌, Bool, true, false, List, [], ◌∷◌, take, get_or, ltb, eqb, Ok, Err}
 use Rattle.wire.specs.Bytes.{pick}
 use Rattle.wire.specs.Refuses.{OneOf}
 use Rattle.writing.specs.Write.{tlv_bytes}
@@ -7,7 +7,7 @@ use Rattle.writing.specs.Table.{Writer, parts, all_ok}
 use Rattle.stats_data.specs.Shown.{value_in}
 use Rattle.stats_data_writer.specs.Write.{data_bytes, data_writable}
 use Rattle.stats_report.specs.Grammar.{Stat, put_stat, Reading, join, places}
-use Rattle.stats_report.specs.Shown.{zero_counter, data_in}
+use Rattle.stats_report.specs.Shown.{ReadStats, zero_counter, data_in}
 use Rattle.stats_report.specs.declared.StatCounter.{StatCounter}
 use Rattle.stats_report.specs.declared.StatsReport.{StatsReport}
 
@@ -72,3 +72,8 @@ pub record Same (m : StatsReport) (b : List ℕ) (n : StatsReport) (s : List ℕ
   pub stats_count_same : m.stats_count ≡ n.stats_count
   pub count_same : m.count ≡ n.count
   pub counter_same : (i : ℕ) → i < m.count → SameCounter (get_or m.counters i zero_counter) b (get_or n.counters i zero_counter) s
+
+-- what a reader answers shows the same record
+abbrev pub SameRead : StatsReport → List ℕ → ReadStats → List ℕ → Type 0
+SameRead m b (Ok a) s = Same m b a.report s
+SameRead m b (Err r) s = ⊥

@@ -1,93 +1,86 @@
 // Writing the body of a BMP Statistics Report (RFC 7854, section 4.8).
 #![tactic(auto)]
 
-ghost use Rattle.std.specs.Prelude.{◌≡◌, ◌+◌, ◌≤◌, length};
-ghost use Rattle.writing.specs.Write.{put_at, Wrote};
-ghost use Rattle.stats_report_writer.specs.Write.{plain, counter_writable, one_counter, bytes_of, writable};
+ghost use Rattle.std.specs.Prelude.{◌≡◌, length};
+ghost use Rattle.writing.specs.Write.{Wrote};
+ghost use Rattle.stats_report_writer.specs.Write.{writer, plain, one_counter, bytes_of, writable};
+ghost use Rattle.stats_report_writer.specs.Entries.{bodied};
 
+use numbers_writer::PutNumber;
 use stats_report::{COUNTER_PLACES, StatCounter, StatsReport};
-use writing::WriteAnswer;
+use table_writer::Table;
+use wire::Refusal;
 
 // Writes the report, whose views point into the buffer, to the front of the output. The table is judged and measured in one pass
 // and written in a second, where it stands.
-pub fn write_stats_report(report: StatsReport, buffer: &[u8], out: &mut [u8]) -> WriteAnswer
+#[tactic(auto, using(writing::proofs::Answers::left_alone, writing::proofs::Answers::put_there, crate::proofs::Written::bytes_long, crate::proofs::Written::put_whole))]
+pub fn write_stats_report(
+    report: StatsReport,
+    buffer: &[u8],
+    out: &mut [u8],
+) -> Result<usize, Refusal>
     ensures { Wrote (writable report (length buffer.now)) (bytes_of report buffer.now) out.old result out.new }
 {
     let count = report.count;
-    if COUNTER_PLACES < count {
+    if COUNTER_PLACES < count || (report.stats_count as usize) != count {
         return writing::write_answer(false, 0, out.len());
     }
-    if (report.stats_count as usize) != count {
-        return writing::write_answer(false, 0, out.len());
-    }
-    let mut length: usize = 4;
-    let mut i: usize = 0;
-    while i < count {
-        let counter = report.counters[i];
-        if !counter_writable(counter, buffer.len()) {
-            return writing::write_answer(false, 0, out.len());
-        }
-        length += counter_length(counter);
-        i += 1;
-    }
-    let answer = writing::write_answer(true, length, out.len());
-    let WriteAnswer::Written(_) = answer else {
-        return answer;
-    };
-    numbers_writer::put_u32(out, 0, report.stats_count);
-    let mut at: usize = 4;
-    let mut k: usize = 0;
-    while k < count {
-        let counter = report.counters[k];
-        put_counter(out, at, counter, buffer);
-        at += counter_length(counter);
-        k += 1;
-    }
-    answer
+    let counters = &report.counters[..count];
+    let length = table_writer::answer::<Counters>(4, counters, buffer.len(), out.len())?;
+    report.stats_count.put(out, 0);
+    table_writer::put_all::<Counters>(out, 4, counters, buffer);
+    Ok(length)
 }
 
-fn counter_writable(counter: StatCounter, buffer_length: usize) -> bool
-    ensures { result ≡ counter_writable buffer_length counter }
-{
-    if !is_plain(counter) {
-        return false;
+struct Counters;
+
+impl Table for Counters {
+    type Entry = StatCounter;
+
+    ghost Item = { writer.Item };
+
+    ghost part = { writer.part };
+
+    ghost put_item = { writer.put };
+
+    ghost ok = { writer.ok };
+
+    ghost size = { writer.size };
+
+    ghost one = { one_counter };
+
+    ghost bodied = { bodied };
+
+    fn is_writable(counter: StatCounter, buffer_length: usize, _after: usize) -> bool {
+        is_plain(counter)
+            && stats_data_writer::data_writable(
+                counter.kind,
+                counter.stat_len,
+                counter.stat_data(),
+                buffer_length,
+            )
     }
-    let stat_data = counter.stat_data();
-    stats_data_writer::data_writable(counter.kind, counter.stat_len, stat_data, buffer_length)
+
+    fn length(counter: StatCounter) -> usize {
+        4 + (counter.stat_len as usize)
+    }
+
+    #[tactic(auto, using(writing::proofs::Sets::length_tlv, writing::proofs::Sets::put_three))]
+    fn put(out: &mut [u8], at: usize, counter: StatCounter, buffer: &[u8]) {
+        counter.kind.put(out, at);
+        counter.stat_len.put(out, at + 2);
+        stats_data_writer::put_data(out, at + 4, counter.stat_data(), buffer);
+    }
 }
 
 // Whether the reader could show these numbers: a part that the form does not use is zero, a SAFI has one byte and a counter four.
+#[tactic(auto, unfolding(crate::specs::Write::plain))]
 fn is_plain(counter: StatCounter) -> bool
     ensures { result ≡ plain counter }
 {
     if counter.stat_len == 11 {
         return counter.safi < 256;
     }
-    if counter.afi != 0 {
-        return false;
-    }
-    if counter.safi != 0 {
-        return false;
-    }
-    if counter.stat_len == 4 {
-        return counter.value < 4_294_967_296;
-    }
-    true
-}
-
-fn counter_length(counter: StatCounter) -> usize
-    ensures { (result ≡ 4 + counter.stat_len) × (result ≤ 65539) }
-{
-    let size = counter.stat_len;
-    4 + (size as usize)
-}
-
-fn put_counter(out: &mut [u8], at: usize, counter: StatCounter, buffer: &[u8])
-    requires { at + length (one_counter buffer.now counter) ≤ length out.old }
-    ensures { out.new ≡ put_at out.old at (one_counter buffer.now counter) }
-{
-    let stat_data = counter.stat_data();
-    numbers_writer::put_u16(out, at, counter.kind);
-    numbers_writer::put_u16(out, at + 2, counter.stat_len);
-    stats_data_writer::put_data(out, at + 4, stat_data, buffer);
+    let is_small = counter.stat_len != 4 || counter.value < 4_294_967_296;
+    counter.afi == 0 && counter.safi == 0 && is_small
 }

@@ -18,11 +18,10 @@ use Rattle.writing.specs.Table.{joined}
 use Rattle.writing.proofs.Trip.{table_good, table_fine}
 use Rattle.tlv_table.proofs.Written.{good_part}
 use Rattle.termination_message.specs.Grammar.{Tlv, string, reason, size_of, ReadString, ReadTlv, Reading, join, places}
-use Rattle.termination_message.specs.Shown.{text_of, zero_tlv, entry}
-use Rattle.termination_message_writer.specs.Write.{part_of, writer, bytes_of, writable, SameTlv, Same}
+use Rattle.termination_message.specs.Shown.{ReadTermination, text_of, zero_tlv, entry}
+use Rattle.termination_message_writer.specs.Write.{part_of, writer, bytes_of, writable, SameTlv, SameRead}
 use Rattle.termination_message.specs.declared.TerminationTlv.{TerminationTlv}
 use Rattle.termination_message.specs.declared.TerminationMessage.{TerminationMessage}
-use Rattle.termination_message.specs.declared.TerminationAnswer.{TerminationAnswer}
 use Rattle.termination_message_writer.proofs.Written.{part_text, part_code, Fine, a_text, a_code, fine_from, long, put_long}
 use Rattle.termination_message.proofs.Shows.{ValueAt}
 use Rattle.termination_message_writer.proofs.Trip.{ReadsBack}
@@ -84,7 +83,7 @@ pub writable_from : (m : TerminationMessage) (b : List ℕ) → length m.tlvs �
     → ReadsBack m b (bytes_of m b) → writable m (length b) ≡ true
 writable_from m b full inside two q x values r =
     let s = bytes_of m b in
-    let same = subst (λ (a : TerminationAnswer). Same m b a.message s) x.shown_so r.same in
+    let same = subst (λ (a : ReadTermination). SameRead m b a s) x.shown_so r.same in
     let few : m.count ≤ places = omega (arith, same.count_same, x.reading.fits) in
     let v : AllAt size_of (ValueAt s) 0 q.tlvs = subst (λ (z : List ℕ). AllAt size_of (ValueAt z) 0 q.tlvs) x.reading.joined values in
     let good =

@@ -8,9 +8,8 @@ use native.Mathlib.Omega.{arith}
 use lib.ListN.{length-take, length, take, get_or}
 use Rattle.wire.specs.Number as Number
 use Rattle.wire.specs.Bytes.{Bytes}
-use Rattle.writing.specs.Write.{length_of, Wrote}
-use Rattle.writing.specs.declared.WriteAnswer.{WriteAnswer}
-use Rattle.writing.specs.declared.WriteAnswer.TheVariants.{Written}
+use Rattle.std.specs.declared.result.Result.TheVariants.{Ok}
+use Rattle.writing.specs.Write.{WriteAnswer, length_of, Wrote}
 use Rattle.writing.proofs.Answers.{front, wrote_determined}
 use Rattle.writing.proofs.Table.{length_parts, kept_of}
 use Rattle.tlv_table.proofs.Table.{all-bytes}
@@ -19,7 +18,7 @@ use Rattle.termination_message.specs.Shown.{zero_tlv}
 use Rattle.termination_message_writer.specs.Write.{writer, kept, reading_of, bytes_of, writable}
 use Rattle.termination_message_writer.specs.Unwritable.{Unwritable, Typed}
 use Rattle.termination_message.specs.declared.TerminationMessage.{TerminationMessage}
-use Rattle.termination_message_writer.proofs.Written.{entries}
+use Rattle.termination_message_writer.specs.Entries.{entries}
 use Rattle.termination_message_writer.proofs.Trip.{good_of, ReadsBack, reads_back}
 use Rattle.termination_message_writer.proofs.Converse.{Inside, ReasonTwo, writable_from}
 use Rattle.termination_message_writer.proofs.Unwritable.{listed}
@@ -29,7 +28,7 @@ use Rattle.termination_message.proofs.Promises.{sound, complete, views}
 pub round_trip : (m : TerminationMessage) (b out out' : List ℕ) (a : WriteAnswer) → Bytes b → length m.tlvs ≡ places
     → Wrote (writable m (length b)) (bytes_of m b) out a out'
     → writable m (length b) ≡ true → length (bytes_of m b) ≤ Number.limit → length (bytes_of m b) ≤ length out
-    → (a ≡ Written (length (bytes_of m b))) × ReadsBack m b (take (length_of a) out')
+    → (a ≡ Ok (length (bytes_of m b))) × ReadsBack m b (take (length_of a) out')
 round_trip m b out out' a p long wrote w short room =
     let x = kept_of writer places m.count m.tlvs (length b) w in
     let g = good_of m b p x.fine in

@@ -17,13 +17,13 @@ use Rattle.writing.proofs.Trip.{table_same, end_sizes}
 use Rattle.tlv_table.proofs.Table.{bodied}
 use Rattle.tlv_table.proofs.Written.{part_good}
 use Rattle.termination_message.specs.Grammar.{Tlv, size_of, ReadTlv, Good, places}
-use Rattle.termination_message.specs.Shown.{text_of, zero_tlv, entry, shown}
+use Rattle.termination_message.specs.Shown.{ReadTermination, refusal_of, stop_of, text_of, zero_tlv, entry, shown}
 use Rattle.termination_message.specs.Read.{read_termination}
-use Rattle.termination_message_writer.specs.Write.{part_of, tlv_writable, writer, kept, reading_of, bytes_of, SameTlv, Same}
+use Rattle.termination_message_writer.specs.Write.{part_of, tlv_writable, writer, kept, reading_of, bytes_of, SameTlv, SameRead}
 use Rattle.termination_message.specs.declared.TerminationTlv.{TerminationTlv}
 use Rattle.termination_message.specs.declared.TerminationMessage.{TerminationMessage}
-use Rattle.termination_message.specs.declared.TerminationAnswer.{TerminationAnswer}
-use Rattle.termination_message_writer.proofs.Written.{part_text, part_code, Fine, a_text, a_code, fine_of, entries}
+use Rattle.termination_message_writer.specs.Entries.{entries}
+use Rattle.termination_message_writer.proofs.Written.{part_text, part_code, Fine, a_text, a_code, fine_of}
 use Rattle.termination_message.proofs.Shows.{ValueAt}
 
 -- a code's type is no String's
@@ -74,9 +74,9 @@ size_same b n t (a_code k s v) = ap size_of (part_code b t (coded t k)) ∙ omeg
 
 -- the bytes s are read as the record m, whose views point into b, to their end
 pub record ReadsBack (m : TerminationMessage) (b s : List ℕ) : Type 0 where
-  pub read_good : (read_termination s).refusal.number ≡ Number.Good
-  pub whole : (read_termination s).stop ≡ length s
-  pub same : Same m b (read_termination s).message s
+  pub read_good : (refusal_of (read_termination s)).number ≡ Number.Good
+  pub whole : stop_of (read_termination s) ≡ length s
+  pub same : SameRead m b (read_termination s) s
 
 pub reads_back : (m : TerminationMessage) (b : List ℕ) → length m.tlvs ≡ places → Kept writer places m.count m.tlvs (length b)
     → read_termination (bytes_of m b) ≡ shown (reading_of m b) → AllAt size_of (ValueAt (bytes_of m b)) 0 (reading_of m b).tlvs
@@ -85,11 +85,11 @@ reads_back m b long x a v =
     let s = bytes_of m b in
     let few : m.count ≤ length m.tlvs = omega (arith, long, x.few) in
     record {
-      read_good = ap (λ (y : TerminationAnswer). y.refusal.number) a;
-      whole = ap (λ (y : TerminationAnswer). y.stop) a
+      read_good = ap (λ (y : ReadTermination). (refusal_of y).number) a;
+      whole = ap stop_of a
           ∙ end_sizes writer size_of entry (ValueAt s) b (λ n t o. size_same b n t (fine_of (length b) n t o)) (kept m) 0 x.fine
           ∙ omega (arith, length_joined writer (bodied entries) b (kept m) x.fine);
-      same = subst (λ (y : TerminationAnswer). Same m b y.message s) (sym a) (record {
+      same = subst (λ (y : ReadTermination). SameRead m b y s) (sym a) (record {
         count_same = sym (length_parts writer b (kept m) ∙ length-take-le m.count m.tlvs few);
         tlv_same = table_same writer size_of entry (ValueAt s) b (λ t u. SameTlv t b u s) zero_tlv (same_tlv b s) _ m.tlvs m.count 0 few x.fine v;
       });

@@ -1,24 +1,28 @@
 -- What the writing kit asks of a Termination body. Assumes nothing.
-use mathlib.Core.Path.{◌≡◌, refl, ap}
+use mathlib.Core.Path.{◌≡◌, refl, ◌∙◌}
 use mathlib.Core.Bool.{Bool, true, false}
-use mathlib.Core.List.{List, [], ◌∷◌, ◌++◌}
-use Prim.Native.Nat.{ℕ, ◌+◌, ◌/◌, ◌%◌, ◌≤◌}
+use mathlib.Core.List.{List}
+use Prim.Native.Nat.{ℕ, ◌+◌, ◌%◌, ◌≤◌}
 use native.Mathlib.Omega.{arith}
 use borrow.Author.Tests.{le-leb, le-ltb, eq-eqb, ne_eqb, eqb-true, eqb-false}
 use lib.Dec.{eqb}
 use lib.ListN.{length}
-use Rattle.wire.specs.Bytes.{pick, be}
+use Rattle.wire.specs.Bytes.{pick}
 use Rattle.wire.specs.View.{viewed}
 use Rattle.wire.proofs.Tlv.{put_tlv_long, coded_length}
-use Rattle.tlv_table.specs.Tlvs.{entry_writable, entry_writable_before, one_tlv}
+use Rattle.writing.specs.Table.{sizes}
+use Rattle.writing.proofs.Table.{length_joined, kept_of}
+use Rattle.tlv_table.specs.Tlvs.{entry_writable_before}
 use Rattle.tlv_table.specs.declared.TlvValue.TheVariants.{Part, Number}
 use Rattle.tlv_table.specs.declared.TlvEntry.{TlvEntry}
-use Rattle.tlv_table.proofs.Table.{Entries}
+use Rattle.tlv_table.proofs.Table.{bodied}
 use Rattle.tlv_table.proofs.Written.{Before, before_of, before_from}
-use Rattle.termination_message.specs.Grammar.{Tlv, string, reason, put}
+use Rattle.termination_message.specs.Grammar.{Tlv, string, reason, put, places}
 use Rattle.termination_message.specs.Shown.{text_of}
-use Rattle.termination_message_writer.specs.Write.{part_of, reason_writable, tlv_writable, writer, entry_of}
+use Rattle.termination_message_writer.specs.Write.{part_of, reason_writable, tlv_writable, writer, kept, bytes_of, writable}
 use Rattle.termination_message.specs.declared.TerminationTlv.{TerminationTlv}
+use Rattle.termination_message.specs.declared.TerminationMessage.{TerminationMessage}
+use Rattle.termination_message_writer.specs.Entries.{entries}
 use Rattle.termination_message_writer.proofs.Unwritable.{reason-writable}
 
 -- ---- the item of an entry
@@ -55,36 +59,6 @@ fine_from room after t (a_text k f) = rw (eq-eqb t.kind 0 k) (before_from room a
 fine_from room after t (a_code k s v) =
     rw (ne_eqb t.kind 0 (λ z. omega arith), le-ltb 1 t.kind (omega arith), eq-eqb t.info_len 2 s) (le-leb t.number 4 v)
 
--- ---- the entry of a String is judged as it is, and that of a Reason is writable where it is
-pub text_ok : (room after : ℕ) (t : TerminationTlv) → t.kind ≡ 0 → entry_writable_before room after (entry_of t) ≡ tlv_writable room after t
-unfolding tlv_writable
-text_ok room after t k = rw (eq-eqb t.kind 0 k)
-
-entry_ok : (room after : ℕ) (t : TerminationTlv) → Fine room after t → entry_writable room (entry_of t) ≡ true
-unfolding entry_writable
-entry_ok room after t (a_text k f) = rw (eq-eqb t.kind 0 k) f.alone
-entry_ok room after t (a_code k s v) = rw (ne_eqb t.kind 0 (λ z. omega arith)) (eq-eqb t.info_len 2 s)
-
--- ---- what is put for one TLV
-two_bytes : (n : ℕ) → be 2 n ≡ be 2 (n % 65536)
-unfolding be
-two_bytes n =
-    let high : n / 256 % 256 ≡ n % 65536 / 256 % 256 = omega arith in
-    let low : n % 256 / 1 % 256 ≡ n % 65536 % 256 / 1 % 256 = omega arith in
-    λ i. high i ∷ low i ∷ []
-
-put_one : (b : List ℕ) (t : TerminationTlv) (r : List ℕ) → put (part_of b t) r ≡ one_tlv b (entry_of t) ++ r
-unfolding be
-put_one b t r = go (eqb t.kind 0)
-  where
-    go : (k : Bool) → put (pick k (string t.info_len (viewed b (text_of t))) (reason t.info_len t.number)) r
-        ≡ one_tlv b (record { kind = pick k 0 1; size = t.info_len; value = pick k (Part (text_of t)) (Number (t.number % 65536)) }) ++ r
-    go true = refl
-    go false = ap (λ (l : List ℕ). be 2 1 ++ (be 2 t.info_len ++ (l ++ r))) (two_bytes t.number)
-
-pub entries : Entries writer entry_of
-entries = record { put_is = put_one; fine = λ room after t e. entry_ok room after t (fine_of room after t e); size_is = λ t. refl }
-
 -- ---- how long an item is
 abbrev pub long : Tlv → ℕ
 long (string size value) = 4 + length value
@@ -93,3 +67,7 @@ long (reason size code) = 6
 pub put_long : (t : Tlv) (r : List ℕ) → length (put t r) ≡ long t + length r
 put_long (string size value) r = put_tlv_long (record { kind = 0; size = size; value = value }) r
 put_long (reason size code) r = coded_length 1 size code r
+
+-- ---- how many bytes a writable record takes
+pub bytes_long : (m : TerminationMessage) (b : List ℕ) → writable m (length b) ≡ true → length (bytes_of m b) ≡ 0 + sizes writer (kept m)
+bytes_long m b e = length_joined writer (bodied entries) b (kept m) (kept_of writer places m.count m.tlvs (length b) e).fine ∙ omega arith

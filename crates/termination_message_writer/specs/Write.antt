@@ -1,5 +1,5 @@
 -- What the writer writes: the reading of a record, by the grammar's own parts; which records are writable; when two are the same.
-use Rattle.std.specs.Prelude.{ℕ, ◌+◌, ◌%◌, ◌<◌, ◌≡◌, Bool, false, List, [], take, get_or, leb, ltb, eqb}
+use Rattle.std.specs.Prelude.{ℕ, ◌+◌, ◌%◌, ◌<◌, ◌≡◌, Bool, false, List, [], take, get_or, leb, ltb, eqb, Ok, Err}
 use Rattle.wire.specs.Bytes.{pick}
 use Rattle.wire.specs.View.{viewed}
 use Rattle.wire.specs.Tlv.{short}
@@ -8,7 +8,7 @@ use Rattle.tlv_table.specs.Tlvs.{entry_writable_before}
 use Rattle.tlv_table.specs.declared.TlvValue.TheVariants.{Part, Number}
 use Rattle.tlv_table.specs.declared.TlvEntry.{TlvEntry}
 use Rattle.termination_message.specs.Grammar.{Tlv, string, reason, put, Reading, join, places}
-use Rattle.termination_message.specs.Shown.{text_of, zero_tlv}
+use Rattle.termination_message.specs.Shown.{ReadTermination, text_of, zero_tlv}
 use Rattle.termination_message.specs.declared.TerminationTlv.{TerminationTlv}
 use Rattle.termination_message.specs.declared.TerminationMessage.{TerminationMessage}
 
@@ -73,3 +73,8 @@ pub record SameTlv (t : TerminationTlv) (b : List ℕ) (u : TerminationTlv) (s :
 pub record Same (m : TerminationMessage) (b : List ℕ) (n : TerminationMessage) (s : List ℕ) : Type 0 where
   pub count_same : m.count ≡ n.count
   pub tlv_same : (i : ℕ) → i < m.count → SameTlv (get_or m.tlvs i zero_tlv) b (get_or n.tlvs i zero_tlv) s
+
+-- what a reader answers shows the same record
+abbrev pub SameRead : TerminationMessage → List ℕ → ReadTermination → List ℕ → Type 0
+SameRead m b (Ok a) s = Same m b a.message s
+SameRead m b (Err r) s = ⊥

@@ -3,68 +3,72 @@
 
 ghost use Rattle.std.specs.Prelude.{◌≡◌, length};
 ghost use Rattle.writing.specs.Write.{Wrote};
-ghost use Rattle.termination_message_writer.specs.Write.{tlv_writable, entry_of, bytes_of, writable};
+ghost use Rattle.tlv_table.specs.Tlvs.{one_tlv};
+ghost use Rattle.tlv_table.proofs.Table.{bodied};
+ghost use Rattle.termination_message_writer.specs.Write.{writer, entry_of, bytes_of, writable};
+ghost use Rattle.termination_message_writer.specs.Entries.{entries};
 
+use table_writer::Table;
 use termination_message::{TerminationMessage, TerminationTlv};
 use tlv_table::{TlvEntry, TlvValue};
-use wire::View;
-use writing::WriteAnswer;
+use wire::{Refusal, View};
 
 // Writes the message, whose views point into the buffer, to the front of the output. The table is judged and measured in one pass
 // and written in a second, where it stands.
+#[tactic(auto, using(writing::proofs::Answers::left_alone, writing::proofs::Answers::put_there, crate::proofs::Written::bytes_long))]
 pub fn write_termination_message(
     message: TerminationMessage,
     buffer: &[u8],
     out: &mut [u8],
-) -> WriteAnswer
+) -> Result<usize, Refusal>
     ensures { Wrote (writable message (length buffer.now)) (bytes_of message buffer.now) out.old result out.new }
 {
     let count = message.count;
     if wire::TLV_PLACES < count {
         return writing::write_answer(false, 0, out.len());
     }
-    let mut length: usize = 0;
-    let mut i: usize = 0;
-    while i < count {
-        let tlv = message.tlvs[i];
-        let entry = entry_of(tlv);
-        if !tlv_writable(tlv, buffer.len(), count - i - 1) {
-            return writing::write_answer(false, 0, out.len());
-        }
-        length += tlv_table::tlv_length(entry);
-        i += 1;
-    }
-    let answer = writing::write_answer(true, length, out.len());
-    let WriteAnswer::Written(_) = answer else {
-        return answer;
-    };
-    let mut at: usize = 0;
-    let mut k: usize = 0;
-    while k < count {
-        let tlv = message.tlvs[k];
-        let entry = entry_of(tlv);
-        tlv_table::put_entry(out, at, entry, buffer);
-        at += tlv_table::tlv_length(entry);
-        k += 1;
-    }
-    answer
+    let tlvs = &message.tlvs[..count];
+    let length = table_writer::answer::<Tlvs>(0, tlvs, buffer.len(), out.len())?;
+    table_writer::put_all::<Tlvs>(out, 0, tlvs, buffer);
+    Ok(length)
 }
 
-// The last TLV must not be an empty String: the reader would take it for a tail.
-fn tlv_writable(tlv: TerminationTlv, buffer_length: usize, after: usize) -> bool
-    ensures { result ≡ tlv_writable buffer_length after tlv }
-{
-    let kind = tlv.kind;
-    if kind == 0 {
-        return tlv_table::entry_writable_before(entry_of(tlv), buffer_length, after);
+struct Tlvs;
+
+impl Table for Tlvs {
+    type Entry = TerminationTlv;
+
+    ghost Item = { writer.Item };
+
+    ghost part = { writer.part };
+
+    ghost put_item = { writer.put };
+
+    ghost ok = { writer.ok };
+
+    ghost size = { writer.size };
+
+    ghost one = { λ b t. one_tlv b (entry_of t) };
+
+    ghost bodied = { bodied entries };
+
+    // The last TLV must not be an empty String: the reader would take it for a tail.
+    #[tactic(auto, unfolding(crate::specs::Write::tlv_writable))]
+    fn is_writable(tlv: TerminationTlv, buffer_length: usize, after: usize) -> bool {
+        match tlv.kind {
+            0 => tlv_table::entry_writable_before(entry_of(tlv), buffer_length, after),
+            1 => tlv.info_len == 2 && tlv.number <= 4,
+            _ => false,
+        }
     }
-    if 1 < kind {
-        return false;
+
+    fn length(tlv: TerminationTlv) -> usize {
+        tlv_table::tlv_length(entry_of(tlv))
     }
-    if tlv.info_len != 2 {
-        return false;
+
+    fn put(out: &mut [u8], at: usize, tlv: TerminationTlv, buffer: &[u8]) {
+        tlv_table::put_entry(out, at, entry_of(tlv), buffer);
     }
-    tlv.number <= 4
 }
 
 // A Reason's code is written in two bytes; only codes that fit them are writable.
@@ -80,13 +84,13 @@ fn entry_of(tlv: TerminationTlv) -> TlvEntry
         };
         return TlvEntry {
             kind: 0,
-            size: size,
+            size,
             value: TlvValue::Part(view),
         };
     }
     TlvEntry {
         kind: 1,
-        size: size,
+        size,
         value: TlvValue::Number((number % 65536) as u16),
     }
 }

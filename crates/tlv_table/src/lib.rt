@@ -5,6 +5,7 @@ ghost use Rattle.std.specs.Prelude.{◌≡◌, ◌+◌, ◌-◌, ◌≤◌, leb,
 ghost use Rattle.writing.specs.Write.{put_at};
 ghost use Rattle.tlv_table.specs.Tlvs.{value_bytes, entry_writable, entry_writable_before, one_tlv};
 
+use numbers_writer::PutNumber;
 use wire::View;
 
 // A value: what a view shows of the buffer, or a number of two bytes.
@@ -23,44 +24,37 @@ pub struct TlvEntry {
 }
 
 // Whether an entry can be written from a buffer of this length.
+#[tactic(auto, unfolding(crate::specs::Tlvs::entry_writable))]
 pub fn entry_writable(tlv: TlvEntry, buffer_length: usize) -> bool
     ensures { result ≡ entry_writable buffer_length tlv }
 {
-    let size = tlv.size;
-    let value = tlv.value;
-    match value {
-        TlvValue::Part(view) => writing::tlv_fits(tlv.kind, size, view, buffer_length),
-        TlvValue::Number(_) => size == 2,
+    match tlv.value {
+        TlvValue::Part(view) => writing::tlv_fits(tlv.kind, tlv.size, view, buffer_length),
+        TlvValue::Number(_) => tlv.size == 2,
     }
 }
 
 // The same with so many entries after it, for a reader that takes an empty last TLV for a tail.
+#[tactic(auto, unfolding(crate::specs::Tlvs::entry_writable_before))]
 pub fn entry_writable_before(tlv: TlvEntry, buffer_length: usize, after: usize) -> bool
     ensures { result ≡ entry_writable_before buffer_length after tlv }
 {
-    if !entry_writable(tlv, buffer_length) {
-        return false;
-    }
-    if 0 < tlv.size {
-        return true;
-    }
-    0 < after
+    entry_writable(tlv, buffer_length) && (0 < tlv.size || 0 < after)
 }
 
 // How many bytes an entry takes.
 pub fn tlv_length(tlv: TlvEntry) -> usize
     ensures { (result ≡ 4 + tlv.size) × (result ≤ 65539) }
 {
-    let size = tlv.size;
-    4 + (size as usize)
+    4 + (tlv.size as usize)
 }
 
 // Puts the bytes of an entry, whose view points into the buffer, at a place of the output: all of them or, where they do not fit, none.
+#[tactic(auto, using(writing::proofs::Sets::length_tlv, writing::proofs::Sets::put_nothing))]
 pub fn put_entry(out: &mut [u8], at: usize, tlv: TlvEntry, buffer: &[u8])
     ensures { out.new ≡ put_at out.old at (one_tlv buffer.now tlv) }
 {
-    let value = tlv.value;
-    if fits(out.len(), at, value_length(value, buffer)) {
+    if fits(out.len(), at, value_length(tlv.value, buffer)) {
         put_parts(out, at, tlv, buffer);
     }
 }
@@ -69,35 +63,27 @@ pub fn put_entry(out: &mut [u8], at: usize, tlv: TlvEntry, buffer: &[u8])
 fn fits(room: usize, at: usize, count: usize) -> bool
     ensures { result ≡ leb (4 + count) (room - at) }
 {
-    if room < at {
-        return false;
-    }
-    if room - at < 4 {
-        return false;
-    }
-    count <= room - at - 4
+    at <= room && 4 <= room - at && count <= room - at - 4
 }
 
+#[tactic(auto, unfolding(wire::specs::Bytes::be))]
 fn value_length(value: TlvValue, buffer: &[u8]) -> usize
     ensures { result ≡ length (value_bytes buffer.now value) }
 {
     match value {
-        TlvValue::Part(view) => {
-            let part = view.part(buffer);
-            part.len()
-        }
+        TlvValue::Part(view) => view.part(buffer).len(),
         TlvValue::Number(_) => 2,
     }
 }
 
+#[tactic(auto, using(writing::proofs::Sets::length_tlv, writing::proofs::Sets::put_three))]
 fn put_parts(out: &mut [u8], at: usize, tlv: TlvEntry, buffer: &[u8])
     requires { at + length (one_tlv buffer.now tlv) ≤ length out.old }
     ensures { out.new ≡ put_at out.old at (one_tlv buffer.now tlv) }
 {
-    let value = tlv.value;
-    numbers_writer::put_u16(out, at, tlv.kind);
-    numbers_writer::put_u16(out, at + 2, tlv.size);
-    put_value(out, at + 4, value, buffer);
+    tlv.kind.put(out, at);
+    tlv.size.put(out, at + 2);
+    put_value(out, at + 4, tlv.value, buffer);
 }
 
 fn put_value(out: &mut [u8], at: usize, value: TlvValue, buffer: &[u8])
@@ -105,6 +91,6 @@ fn put_value(out: &mut [u8], at: usize, value: TlvValue, buffer: &[u8])
 {
     match value {
         TlvValue::Part(view) => writing::put_bytes(out, at, view.part(buffer)),
-        TlvValue::Number(number) => numbers_writer::put_u16(out, at, number),
+        TlvValue::Number(number) => number.put(out, at),
     }
 }

@@ -9,4 +9,4 @@ returns c =
     let sixteen : length c.args.octets ≡ 16 = search rules in
     let a = c.args in
     put_rest a.octets a.admin.now a.group.now a.out.now _ _ _ _ _ sixteen c.requires.group_in_bounds
-    c.put_counted.ensures c.put_bytes.ensures c.put_bytes-2.ensures c.put_counted-2.ensures c.put_u32.ensures
+    c.put_counted.ensures c.put_bytes.ensures c.put_bytes-2.ensures c.put_counted-2.ensures c.put.ensures

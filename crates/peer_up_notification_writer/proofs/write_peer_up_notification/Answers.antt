@@ -1,60 +1,45 @@
-use borrow.Author.Rules.{rules}
-use native.Mathlib.Omega.{arith}
-use mathlib.Core.Path.{◌≡◌, sym, ◌∙◌}
-use Prim.Native.Nat.{◌+◌}
-use lib.ListN.{length}
-use lib.Seq.{sets}
+use Rattle.std.proofs.Common.{◌≡◌, ◌+◌, length, rules, arith, ap, sym, ◌∙◌, Ok, refl}
+use Rattle.std.proofs.lemmas.Grind.{common_steps}
+use Rattle.std.proofs.lemmas.List.Edits.{sets}
+use lib.Seq.{length-sets}
 use Rattle.wire.specs.Bytes.{Bytes}
-use Rattle.wire.proofs.Held.{slice_bytes, array_bytes}
-use Rattle.writing.proofs.Answers.{refused_so}
-use Rattle.writing.proofs.Passes.{Asked, measured_bad, measured_asks, asked_refused, asked_ends}
-use Rattle.tlv_table.proofs.Table.{bodied, entry_measured, entry_placed, alone_judged}
-use Rattle.peer_up_notification.specs.Shown.{zero_tlv}
-use Rattle.peer_up_notification_writer.specs.Write.{writer, bytes_of, writable, front_bytes, Typed}
-use Rattle.peer_up_notification_writer.proofs.Written.{entries, FineFront, front_of, writes_of, bytes_are, length_front, front_put}
+use Rattle.wire.proofs.Held.{slice_bytes}
+use Rattle.writing.specs.Table.{joined, sizes}
+use Rattle.writing.specs.Write.{write_answer}
+use Rattle.writing.proofs.Answers.{writes, left_alone, put_there}
+use Rattle.peer_up_notification.specs.Shown.{kept}
+use Rattle.peer_up_notification_writer.specs.Write.{writer, writable, bytes_of, endpoint_bytes, front_length}
+use Rattle.peer_up_notification_writer.proofs.Written.{FineFront, front_of, length_opens, tlvs_decide, bytes_long, put_whole}
 use Rattle.peer_up_notification_writer.proofs.write_peer_up_notification.Goals as goal
 
-pub overflow_add-front : goal.overflow_add-front
-overflow_add-front c =
-    let fine : FineFront c.args.message c.args.buffer.now = front_of c.args.message c.args.buffer.now (sym c.front_writable.ensures ∙ c.if-not-front_writable.false) in
-    omega (arith, fine.sent.size_fits, fine.received.size_fits)
+pub returns-in_err-length : goal.returns-in_err-length
+returns-in_err-length c =
+    let m = c.args.message in
+    let b = c.args.buffer.now in
+    let sixteen : length m.local_addr.octets ≡ 16 = search rules in
+    let p : Bytes b = slice_bytes b (λ i. omega (arith, c.type_inv.buffer i)) in
+    let long = bytes_long m b p sixteen in
+    let asked : c.from_residual.result ≡ write_answer (writable m b) (front_length m + sizes writer (kept m)) (length c.args.out.now) = grind (arith, common_steps, tlvs_decide) in
+    left_alone _ (bytes_of m b) c.args.out.now _ long _ asked c.in_err-length.field-0.0 (grind (arith, common_steps))
 
-pub overflow_add-front-2 : goal.overflow_add-front-2
-overflow_add-front-2 c =
-    let fine : FineFront c.args.message c.args.buffer.now = front_of c.args.message c.args.buffer.now (sym c.front_writable.ensures ∙ c.if-not-front_writable.false) in
-    omega (arith, fine.sent.size_fits, fine.received.size_fits)
-
-pub returns-then-not-entry_writable : goal.returns-then-not-entry_writable
-returns-then-not-entry_writable c = refused_so (measured_bad c.loop-i.invariant zero_tlv c.loop-i-test.true (alone_judged _ c.entry_of-entry.ensures c.entry_writable.ensures c.if-not-entry_writable.true)) c.write_answer-then-not-entry_writable.ensures
-
-pub overflow_add-length : goal.overflow_add-length
-overflow_add-length c =
-    let fine : FineFront c.args.message c.args.buffer.now = front_of c.args.message c.args.buffer.now (sym c.front_writable.ensures ∙ c.if-not-front_writable.false) in
-    omega (arith, c.loop-i.invariant.small, c.if-count-gt-TLV_PLACES.false, c.loop-i-test.true, c.tlv_length-length.ensures.1, fine.sent.size_fits, fine.received.size_fits)
-
-pub loop-i-preserved : goal.loop-i-preserved
-loop-i-preserved c = entry_measured entries c.loop-i.invariant zero_tlv c.loop-i-test.true (alone_judged _ c.entry_of-entry.ensures c.entry_writable.ensures c.if-not-entry_writable.false) c.entry_of-entry.ensures c.tlv_length-length.ensures
-
-pub returns-in_default : goal.returns-in_default
-returns-in_default c =
-    let fine : FineFront c.args.message c.args.buffer.now = front_of c.args.message c.args.buffer.now (sym c.front_writable.ensures ∙ c.if-not-front_writable.false) in
-    let typed : Typed c.args.message = let octets = c.well_formed.0.1.1.0.1.1.0 in record { octets = record { many = search rules; are_bytes = array_bytes c.args.message.local_addr.octets octets.0 octets.1.1 }; local_port_fits = omega (arith, c.well_formed); remote_port_fits = omega (arith, c.well_formed); table_long = search rules } in
-    let long : (let a = c.args in length (front_bytes a.message a.buffer.now) ≡ 20 + (a.message.sent_open.length + a.message.received_open.length)) = length_front c.args.message c.args.buffer.now fine typed.octets.many in
-    let buffer-bytes : Bytes c.args.buffer.now = slice_bytes c.args.buffer.now (λ i. omega (arith, c.shared_slice_known-1.given i)) in
-    let asked : (let a = c.args in Asked writer a.message.tlvs a.message.count a.buffer.now (writable a.message a.buffer.now) (front_bytes a.message a.buffer.now) (bytes_of a.message a.buffer.now) a.out.now c.loop-i.length c.write_answer-answer.result) = let a = c.args in measured_asks {front = front_bytes a.message a.buffer.now} c.loop-i.invariant c.loop-i-test.false long (λ o. bytes_are a.message a.buffer.now buffer-bytes (writes_of a.message a.buffer.now o).front) c.write_answer-answer.ensures in
-    asked_refused (bodied entries) asked c.in_default.is
-
-pub loop-k-preserved : goal.loop-k-preserved
-loop-k-preserved c =
-    entry_placed entries c.loop-k.invariant zero_tlv c.loop-k-test.true
-    c.entry_of-entry-in-loop-k.ensures c.tlv_length-at.ensures.0 c.put_entry.ensures
+pub put_opens-requires : goal.put_opens-requires
+put_opens-requires c =
+    let m = c.args.message in
+    let b = c.args.buffer.now in
+    let f : FineFront m b = front_of m b (sym c.front_writable.ensures ∙ c.if-not-front_writable.false) in
+    let asked : Ok c.in_ok-length.length ≡ write_answer (writable m b) (front_length m + sizes writer (kept m)) (length c.args.out.now) = grind (arith, common_steps, tlvs_decide) in
+    let w = writes (writable m b) (front_length m + sizes writer (kept m)) (length c.args.out.now) c.in_ok-length.length asked in
+    let kept_long : length c.put_endpoints.new.out ≡ length c.args.out.now = ap length c.put_endpoints.ensures ∙ length-sets c.args.out.now 0 (endpoint_bytes m.local_addr m.local_port m.remote_port) in
+    omega (arith, w.fits, length_opens b m.sent_open m.received_open f.sent f.received)
 
 pub returns : goal.returns
 returns c =
-    let typed : Typed c.args.message = let octets = c.well_formed.0.1.1.0.1.1.0 in record { octets = record { many = search rules; are_bytes = array_bytes c.args.message.local_addr.octets octets.0 octets.1.1 }; local_port_fits = omega (arith, c.well_formed); remote_port_fits = omega (arith, c.well_formed); table_long = search rules } in
-    let front-there : (let a = c.args in c.put_opens.new.out ≡ sets a.out.now 0 (front_bytes a.message a.buffer.now)) = let a = c.args in front_put a.message a.buffer.now a.out.now _ _ typed.octets.many c.put_endpoints.ensures c.put_opens.ensures in
-    let fine : FineFront c.args.message c.args.buffer.now = front_of c.args.message c.args.buffer.now (sym c.front_writable.ensures ∙ c.if-not-front_writable.false) in
-    let long : (let a = c.args in length (front_bytes a.message a.buffer.now) ≡ 20 + (a.message.sent_open.length + a.message.received_open.length)) = length_front c.args.message c.args.buffer.now fine typed.octets.many in
-    let buffer-bytes : Bytes c.args.buffer.now = slice_bytes c.args.buffer.now (λ i. omega (arith, c.shared_slice_known-1.given i)) in
-    let asked : (let a = c.args in Asked writer a.message.tlvs a.message.count a.buffer.now (writable a.message a.buffer.now) (front_bytes a.message a.buffer.now) (bytes_of a.message a.buffer.now) a.out.now c.loop-i.length c.write_answer-answer.result) = let a = c.args in measured_asks {front = front_bytes a.message a.buffer.now} c.loop-i.invariant c.loop-i-test.false long (λ o. bytes_are a.message a.buffer.now buffer-bytes (writes_of a.message a.buffer.now o).front) c.write_answer-answer.ensures in
-    asked_ends (bodied entries) asked c.in-Written.is front-there (sym long) c.loop-k.invariant c.loop-k-test.false
+    let m = c.args.message in
+    let b = c.args.buffer.now in
+    let out = c.args.out.now in
+    let sixteen : length m.local_addr.octets ≡ 16 = search rules in
+    let p : Bytes b = slice_bytes b (λ i. omega (arith, c.type_inv.buffer i)) in
+    let f : FineFront m b = front_of m b (sym c.front_writable.ensures ∙ c.if-not-front_writable.false) in
+    let asked : Ok c.in_ok-length.length ≡ write_answer (writable m b) (front_length m + sizes writer (kept m)) (length out) = grind (arith, common_steps, tlvs_decide) in
+    let table : c.put_all.new.out ≡ sets c.put_opens.new.out (front_length m) (joined writer b (kept m)) = grind (arith, common_steps) in
+    put_there _ (bytes_of m b) out _ (bytes_long m b p sixteen) _ asked _ refl _ (put_whole m b p sixteen f out _ _ _ c.put_endpoints.ensures c.put_opens.ensures table)

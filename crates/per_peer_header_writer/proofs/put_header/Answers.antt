@@ -12,6 +12,6 @@ pub returns : goal.returns
 returns c =
     let sixteen : length c.args.header.peer_ip.octets ≡ 16 = search rules in
     let a = c.args in
-    let kind = c.put_u8.ensures ∙ ap (λ (k : ℕ). put_at a.out.now 0 (be 1 k)) c.number.ensures in
+    let kind = c.put.ensures ∙ ap (λ (k : ℕ). put_at a.out.now 0 (be 1 k)) c.number.ensures in
     put_all a.header (omega (arith, c.well_formed)) c.requires.header_value sixteen a.out.now _ _ _ _ _ _ _ _ c.requires.in_bounds
-    kind c.put_u8-2.ensures c.put_u64.ensures c.put_bytes.ensures c.put_u32.ensures c.put_u32-2.ensures c.put_u32-3.ensures c.put_u32-4.ensures
+    kind c.put-2.ensures c.put-3.ensures c.put_bytes.ensures c.put-4.ensures c.put-5.ensures c.put-6.ensures c.put-7.ensures
