@@ -6,3 +6,4 @@ pub mod Maps
 pub mod Runs
 pub mod Zero
 pub mod Promises
+pub mod Kept

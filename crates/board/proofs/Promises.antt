@@ -8,7 +8,7 @@ use native.Mathlib.Omega.{arith}
 use borrow.Author.Tests.{ltb-true, ltb-false, lt-ltb, le-ltb}
 use lib.Dec.{ltb}
 use lib.ListN.{length, get_or, set, length-set}
-use Rattle.wire.specs.Number as Number
+use Rattle.std.specs.declared.result.Result.TheVariants.{Ok, Err}
 use Rattle.wire.proofs.Determined.{determined}
 use Rattle.peer_key.specs.Key.{key_of, same_key, Part, Agree}
 use Rattle.peer_key.specs.declared.PeerKey.{PeerKey}
@@ -19,13 +19,11 @@ use Rattle.peer_down_notification.specs.declared.PeerDownNotification.{PeerDownN
 use Rattle.stats_report.specs.Grammar as Report
 use Rattle.stats_report.specs.declared.StatsReport.{StatsReport}
 use Rattle.board.specs.First.{first}
-use Rattle.board.specs.Board.{hits, free, find_key, place_for, free_place, used_by, silent, heard, empty_board, with_peer, with_entry, answer, up_of, down_of, report_of, look_of, Whole, Absent, used, ZeroIfFree, Upped, Downed, Reported, LookedUp}
+use Rattle.board.specs.Board.{number_of, Place, Peer, Answered, Updated, Looked, hits, free, find_key, place_for, free_place, used_by, silent, heard, empty_board, with_peer, with_entry, up_of, down_of, report_of, look_of, Whole, Absent, used, ZeroIfFree, Upped, Downed, Reported, LookedUp}
 use Rattle.board.specs.Map.{Apart, Call, up, down, report, key_in, find, board_step, board_run, map_run, shown_of, calls_of, NeverFull}
-use Rattle.board.specs.declared.Place.{Place}
-use Rattle.board.specs.declared.Peer.{Peer}
 use Rattle.board.specs.declared.Board.{Board}
-use Rattle.board.specs.declared.Updated.{Updated}
-use Rattle.board.specs.declared.Looked.{Looked}
+use Rattle.board.specs.declared.BoardRefusal.{BoardRefusal}
+use Rattle.board.specs.declared.BoardRefusal.TheVariants.{BoardFull}
 use Rattle.board.proofs.Firsts.{by_test, set_found}
 use Rattle.board.proofs.Entries.{peer_of, peer_aside, entry_aside, other_misses, free_misses_at, absent, absent_first, same_place, used_le, room, full}
 use Rattle.board.proofs.Runs.{empty_holds, run_holds, shows_peer, by_itself, key_run}
@@ -135,7 +133,7 @@ module _ (b : Board) (w : Whole b) where
   no_accident p one other n r = others_stay (report one r) (key_of other) (two_keys p one other n)
 
   -- A freed place is used again: after a Peer Down a new key never meets a full board.
-  pub freed_again : (k other : PeerKey) → (down_of b k).number ≡ 0 → (up_of (down_of b k).board other).number ≡ 0
+  pub freed_again : (k other : PeerKey) → (down_of b k).answered ≡ Ok tt → (up_of (down_of b k).board other).answered ≡ Ok tt
   unfolding down_of up_of
   freed_again k other z =
       let i = first (hits k) ps in
@@ -147,24 +145,24 @@ module _ (b : Board) (w : Whole b) where
       rw t
       (by_test (ltb (first (hits other) freed) 64) (λ u. rw u (rw u))
       (λ u. rw (u, lt-ltb (first free freed) 64 (omega arith)))))
-      (λ t. absurd (let y : ⊥ = let x = rw t at z in omega arith in y))
+      (λ t. let x = rw t at z in cc)
 
-  -- 13 is answered exactly when the key is new and all 64 places are used.
-  pub full_exactly : (k : PeerKey) → ((up_of b k).number ≡ Number.BoardFull) ↔ (Absent k ps × (used ps ≡ 64))
+  -- BoardFull is answered exactly when the key is new and all 64 places are used.
+  pub full_exactly : (k : PeerKey) → ((up_of b k).answered ≡ Err BoardFull) ↔ (Absent k ps × (used ps ≡ 64))
   unfolding up_of
   full_exactly k = (only, all)
     where
-      only : (up_of b k).number ≡ Number.BoardFull → Absent k ps × (used ps ≡ 64)
+      only : (up_of b k).answered ≡ Err BoardFull → Absent k ps × (used ps ≡ 64)
       only z =
-          by_test (ltb (first (hits k) ps) 64) (λ t. absurd (let y : ⊥ = let x = rw t at (rw t at z) in omega arith in y))
+          by_test (ltb (first (hits k) ps) 64) (λ t. let x = rw t at (rw t at z) in cc)
           (λ t.
-          by_test (ltb (first free ps) 64) (λ f. absurd (let y : ⊥ = let x = rw (t, f) at z in omega arith in y))
+          by_test (ltb (first free ps) 64) (λ f. let x = rw (t, f) at z in cc)
           (λ f. (
             absent k ps (rw w.places_long (ltb-false (first (hits k) ps) 64 t)),
             full ps (rw w.places_long (ltb-false (first free ps) 64 f)) ∙ w.places_long,
           )))
 
-      all : Absent k ps × (used ps ≡ 64) → (up_of b k).number ≡ Number.BoardFull
+      all : Absent k ps × (used ps ≡ 64) → (up_of b k).answered ≡ Err BoardFull
       all a =
           let none = absent_first k ps a.0 ∙ w.places_long in
           by_test (ltb (first free ps) 64)
@@ -173,7 +171,7 @@ module _ (b : Board) (w : Whole b) where
           (λ f. rw (le-ltb (first (hits k) ps) 64 (omega arith), f))
 
 -- A refusal leaves the board as it was.
-pub refused_leaves : (b : Board) (x : Call) → ((board_step b x).number ≡ 0 → ⊥) → (board_step b x).board ≡ b
+pub refused_leaves : (b : Board) (x : Call) → ((board_step b x).answered ≡ Ok tt → ⊥) → (board_step b x).board ≡ b
 unfolding up_of down_of report_of
 refused_leaves b (up h x) n = by_test (ltb (place_for b.places (key_of h)) 64) (λ t. absurd (n (rw t))) (λ t. rw t)
 refused_leaves b (down h x) n = by_test (ltb (find_key b.places (key_of h)) 64) (λ t. absurd (n (rw t))) (λ t. rw t)
@@ -187,18 +185,18 @@ unfolding up_of
 same_places b k h = let t = lt-ltb (find_key b.places k) 64 h in rw t (rw t (same_place k b.places))
 
 -- ---- any two answers that the contracts allow are equal, and so are the two boards
-both : (n m : ℕ) (b c : Board) → answer n b ≡ answer m c → (n ≡ m) × (b ≡ c)
-both n m b c e = (ap (λ (u : Updated). u.number) e, ap (λ (u : Updated). u.board) e)
+both : (a c : Answered) (p q : Board) → ◌≡◌ {A = Updated} (record { answered = a; board = p }) (record { answered = c; board = q }) → (a ≡ c) × (p ≡ q)
+both a c p q e = (ap (λ (u : Updated). u.answered) e, ap (λ (u : Updated). u.board) e)
 
-pub up_determined : (b : Board) (h : BmpPerPeerHeader) (x : PeerUpNotification) (n m : ℕ) (c d : Board)
+pub up_determined : (b : Board) (h : BmpPerPeerHeader) (x : PeerUpNotification) (n m : Answered) (c d : Board)
     → Upped b h x n c → Upped b h x m d → (n ≡ m) × (c ≡ d)
 up_determined b h x n m c d p q = both n m c d (determined p q)
 
-pub down_determined : (b : Board) (h : BmpPerPeerHeader) (x : PeerDownNotification) (n m : ℕ) (c d : Board)
+pub down_determined : (b : Board) (h : BmpPerPeerHeader) (x : PeerDownNotification) (n m : Answered) (c d : Board)
     → Downed b h x n c → Downed b h x m d → (n ≡ m) × (c ≡ d)
 down_determined b h x n m c d p q = both n m c d (determined p q)
 
-pub report_determined : (b : Board) (h : BmpPerPeerHeader) (r : StatsReport) (n m : ℕ) (c d : Board)
+pub report_determined : (b : Board) (h : BmpPerPeerHeader) (r : StatsReport) (n m : Answered) (c d : Board)
     → Reported b h r n c → Reported b h r m d → (n ≡ m) × (c ≡ d)
 report_determined b h r n m c d p q = both n m c d (determined p q)
 
@@ -207,3 +205,6 @@ look_determined b k r q = determined
 
 pub empty_determined : (r q : Board) → r ≡ empty_board → q ≡ empty_board → r ≡ q
 empty_determined r q = determined
+
+pub number_determined : (e : BoardRefusal) (n m : ℕ) → n ≡ number_of e → m ≡ number_of e → n ≡ m
+number_determined e n m = determined

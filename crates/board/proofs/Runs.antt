@@ -4,13 +4,14 @@ use mathlib.Core.Path.{◌≡◌, refl, sym, ap, ◌∙◌}
 use Prim.Native.Nat.{ℕ, zero, suc, ◌≤◌, ◌<◌}
 use mathlib.Core.Bool.{true, false}
 use mathlib.Core.List.{List, [], ◌∷◌}
-use mathlib.Core.Option.{Option, some, none}
+use Rattle.std.specs.declared.option.Option.{Option}
+use Rattle.std.specs.declared.option.Option.TheVariants.{Some, None}
 use native.Mathlib.Omega.{arith}
 use borrow.Author.Tests.{ltb-true, ltb-false, lt-ltb, le-ltb}
 use lib.Dec.{ltb}
 use lib.ListN.{length, get_or, set, replicate, length-set, length-replicate}
+use Rattle.std.specs.declared.result.Result.TheVariants.{Err}
 use Rattle.wire.specs.Bytes.{pick}
-use Rattle.wire.specs.Number as Number
 use Rattle.peer_key.specs.Key.{key_of, same_key}
 use Rattle.peer_key.specs.declared.PeerKey.{PeerKey}
 use Rattle.peer_key.proofs.Equality.{keys_equal}
@@ -20,11 +21,10 @@ use Rattle.peer_down_notification.specs.declared.PeerDownNotification.{PeerDownN
 use Rattle.stats_report.specs.Grammar as Report
 use Rattle.stats_report.specs.declared.StatsReport.{StatsReport}
 use Rattle.board.specs.First.{first}
-use Rattle.board.specs.Board.{hits, free, used, Absent, free_place, used_by, silent, heard, empty_board, with_peer, with_entry, up_of, down_of, report_of, look_of}
+use Rattle.board.specs.Board.{Place, Peer, hits, free, used, Absent, free_place, used_by, silent, heard, empty_board, with_peer, with_entry, up_of, down_of, report_of, look_of}
 use Rattle.board.specs.Map.{Map, find, without, put, Apart, has, Call, up, down, report, key_in, map_step, map_reported, board_step, shown_of, map_run, board_run, calls_of, NeverFull}
-use Rattle.board.specs.declared.Place.{Place}
-use Rattle.board.specs.declared.Peer.{Peer}
 use Rattle.board.specs.declared.Board.{Board}
+use Rattle.board.specs.declared.BoardRefusal.TheVariants.{BoardFull}
 use Rattle.board.proofs.Firsts.{by_test}
 use Rattle.board.proofs.Entries.{never, peer_of, Once, peer_aside, entry_aside, other_misses, free_misses_at, absent, absent_shows, present_shows, set_shows, same_place, new_shows, gone_absent, new_once, gone_once, room, full, new_used, gone_used}
 use Rattle.board.proofs.Maps.{find_without, find_put, length_without, length_new, apart_put, apart_without, not_there}
@@ -60,7 +60,7 @@ module _ (b : Board) (m : Map) (s : Holds b m) where
   inside i h = rw s.places_long h
 
   -- where the key stands, the map has it, and where it does not, the map does not
-  found : (k : PeerKey) → at k < 64 → find k m ≡ some (get_or qs (at k) silent)
+  found : (k : PeerKey) → at k < 64 → find k m ≡ Some (get_or qs (at k) silent)
   found k h = sym (s.shows k) ∙ present_shows k ps qs silent alike (inside (at k) h)
 
   here : (k : PeerKey) → at k < 64 → has (find k m) ≡ true
@@ -69,14 +69,14 @@ module _ (b : Board) (m : Map) (s : Holds b m) where
   nowhere : (k : PeerKey) → 64 ≤ at k → Absent k ps
   nowhere k h = absent k ps (rw s.places_long h)
 
-  not_found : (k : PeerKey) → 64 ≤ at k → find k m ≡ none
+  not_found : (k : PeerKey) → 64 ≤ at k → find k m ≡ None
   not_found k h = sym (s.shows k) ∙ absent_shows k ps qs (nowhere k h)
 
   not_here : (k : PeerKey) → 64 ≤ at k → has (find k m) ≡ false
   not_here k h = rw (not_found k h)
 
   abbrev Steps : Call → Type 0
-  Steps x = ((board_step b x).number ≡ (map_step m x).0) × Holds (board_step b x).board (map_step m x).1
+  Steps x = ((board_step b x).answered ≡ (map_step m x).0) × Holds (board_step b x).board (map_step m x).1
 
   -- the peer is set where the key stands
   set_here : (k : PeerKey) (v : Peer) → at k < 64 → Holds (with_peer b (at k) v) (put k v m)
@@ -85,7 +85,7 @@ module _ (b : Board) (m : Map) (s : Holds b m) where
       let z = s.size in
       record {
         shows = λ other.
-            told_by k other (peer_of other ps (set qs (at k) v)) (find other m) (some v)
+            told_by k other (peer_of other ps (set qs (at k) v)) (find other m) (Some v)
             (λ t. rw (← keys_equal k other t) (set_shows k ps qs v alike (inside (at k) h)))
             (λ t. peer_aside other ps qs (at k) v free_place (other_misses k other ps free_place t (inside (at k) h)) ∙ s.shows other)
             ∙ sym (find_put k other v m);
@@ -103,7 +103,7 @@ module _ (b : Board) (m : Map) (s : Holds b m) where
       let z = s.size in
       record {
         shows = λ other.
-            told_by k other (peer_of other (set ps (first free ps) (used_by k)) (set qs (first free ps) silent)) (find other m) (some silent)
+            told_by k other (peer_of other (set ps (first free ps) (used_by k)) (set qs (first free ps) silent)) (find other m) (Some silent)
             (λ t. rw (← keys_equal k other t) (new_shows k ps qs (first free ps) silent alike (inside (first free ps) j) (nowhere k h)))
             (λ t. entry_aside other ps qs (first free ps) (used_by k) free_place silent (free_misses_at other ps free_place (inside (first free ps) j)) t ∙ s.shows other)
             ∙ sym (find_put k other silent m);
@@ -121,7 +121,7 @@ module _ (b : Board) (m : Map) (s : Holds b m) where
       let z = s.size in
       record {
         shows = λ other.
-            told_by k other (peer_of other (set ps (at k) free_place) (set qs (at k) silent)) (find other m) none
+            told_by k other (peer_of other (set ps (at k) free_place) (set qs (at k) silent)) (find other m) None
             (λ t. rw (← keys_equal k other t) (absent_shows k (set ps (at k) free_place) (set qs (at k) silent) (gone_absent k ps s.once)))
             (λ t. entry_aside other ps qs (at k) free_place free_place silent (other_misses k other ps free_place t (inside (at k) h)) refl ∙ s.shows other)
             ∙ sym (find_without k other m);
@@ -222,12 +222,12 @@ run_holds b m s (x ∷ xs) =
 
 -- ---- one key by itself
 abbrev reported : StatsReport → Option Peer → Option Peer
-reported r none = none
-reported r (some q) = some (heard q r)
+reported r None = None
+reported r (Some q) = Some (heard q r)
 
 abbrev key_step : Option Peer → Call → Option Peer
-key_step o (up h x) = some silent
-key_step o (down h x) = none
+key_step o (up h x) = Some silent
+key_step o (down h x) = None
 key_step o (report h r) = pick (ltb Report.places r.count) o (reported r o)
 
 abbrev pub key_run : Option Peer → List Call → Option Peer
@@ -236,13 +236,13 @@ key_run o (x ∷ xs) = key_run (key_step o x) xs
 
 report_own : (m : Map) (k own : PeerKey) (r : StatsReport) (o : Option Peer) → find own m ≡ o
     → find k (map_reported own r m o).1 ≡ pick (same_key own k) (reported r (find k m)) (find k m)
-report_own m k own r none e =
-    by_test (same_key own k) (λ t. rw t (let z : find k m ≡ none = rw (← keys_equal own k t) e in rw z)) (λ t. rw t)
-report_own m k own r (some q) e =
+report_own m k own r None e =
+    by_test (same_key own k) (λ t. rw t (let z : find k m ≡ None = rw (← keys_equal own k t) e in rw z)) (λ t. rw t)
+report_own m k own r (Some q) e =
     find_put own k (heard q r) m
-    ∙ by_test (same_key own k) (λ t. rw t (let z : find k m ≡ some q = rw (← keys_equal own k t) e in rw z)) (λ t. rw t)
+    ∙ by_test (same_key own k) (λ t. rw t (let z : find k m ≡ Some q = rw (← keys_equal own k t) e in rw z)) (λ t. rw t)
 
-own_step : (m : Map) (k : PeerKey) (x : Call) → ((map_step m x).0 ≡ Number.BoardFull → ⊥)
+own_step : (m : Map) (k : PeerKey) (x : Call) → ((map_step m x).0 ≡ Err BoardFull → ⊥)
     → find k (map_step m x).1 ≡ pick (same_key (key_in x) k) (key_step (find k m) x) (find k m)
 own_step m k (up h x) n =
     by_test (has (find (key_of h) m)) (λ t. rw t (find_put (key_of h) k silent m))

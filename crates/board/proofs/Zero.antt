@@ -2,7 +2,7 @@
 use mathlib.Core.Path.{◌≡◌, refl, sym, ◌∙◌}
 use native.Mathlib.Omega.{arith}
 use Prim.Native.Nat.{ℕ, zero, suc}
-use mathlib.Core.Bool.{true, and-eq-true_iff}
+use mathlib.Core.Bool.{false}
 use mathlib.Core.List.{List, [], ◌∷◌}
 use borrow.Author.Tests.{ltb-true}
 use lib.Dec.{ltb}
@@ -12,13 +12,11 @@ use Rattle.peer_key.specs.declared.PeerKey.{PeerKey}
 use Rattle.stats_report.specs.Grammar as Report
 use Rattle.stats_report.specs.declared.StatsReport.{StatsReport}
 use Rattle.board.specs.First.{first}
-use Rattle.board.specs.Board.{hits, place_for, free_place, used_by, silent, heard, empty_board, up_of, down_of, report_of, ZeroIfFree}
+use Rattle.board.specs.Board.{Place, Peer, hits, free, place_for, free_place, used_by, silent, heard, empty_board, up_of, down_of, report_of, ZeroIfFree}
 use Rattle.board.specs.Map.{Map, Call, up, down, report, map_step, board_step, board_run}
-use Rattle.board.specs.declared.Place.{Place}
-use Rattle.board.specs.declared.Peer.{Peer}
 use Rattle.board.specs.declared.Board.{Board}
 use Rattle.board.proofs.Firsts.{by_test, found_passes}
-use Rattle.board.proofs.Entries.{never}
+use Rattle.board.proofs.Entries.{never, hits_taken}
 use Rattle.board.proofs.Runs.{Holds, step_holds, empty_holds}
 
 unfoldable AllZero : List Place → List Peer → Type 0
@@ -34,11 +32,11 @@ entry_zero (x ∷ ps) [] (suc i) p q e z = tt
 entry_zero (x ∷ ps) (y ∷ qs) zero p q e z = (e, z.1)
 entry_zero (x ∷ ps) (y ∷ qs) (suc i) p q e z = (z.0, entry_zero ps qs i p q e z.1)
 
-peer_zero : (ps : List Place) (qs : List Peer) (i : ℕ) (q : Peer) → (get_or ps i free_place).used ≡ true → AllZero ps qs → AllZero ps (set qs i q)
+peer_zero : (ps : List Place) (qs : List Peer) (i : ℕ) (q : Peer) → free (get_or ps i free_place) ≡ false → AllZero ps qs → AllZero ps (set qs i q)
 unfolding AllZero
 peer_zero [] qs i q e z = tt
 peer_zero (x ∷ ps) [] i q e z = tt
-peer_zero (x ∷ ps) (y ∷ qs) zero q e z = ((λ f. never (sym e ∙ f)), z.1)
+peer_zero (x ∷ ps) (y ∷ qs) zero q e z = ((λ f. never (sym f ∙ e)), z.1)
 peer_zero (x ∷ ps) (y ∷ qs) (suc i) q e z = (z.0, peer_zero ps qs i q e z.1)
 
 module _ (b : Board) (m : Map) (s : Holds b m) (z : AllZero b.places b.peers) where
@@ -49,7 +47,7 @@ module _ (b : Board) (m : Map) (s : Holds b m) (z : AllZero b.places b.peers) wh
   unfolding up_of
   up_zero k =
       by_test (ltb (place_for b.places k) 64)
-      (λ t. rw t (entry_zero b.places b.peers (place_for b.places k) (used_by k) silent (λ e. never e) z)) (λ t. rw t z)
+      (λ t. rw t (entry_zero b.places b.peers (place_for b.places k) (used_by k) silent (λ e. never (sym e)) z)) (λ t. rw t z)
 
   down_zero : (k : PeerKey) → AllZero (down_of b k).board.places (down_of b k).board.peers
   unfolding down_of
@@ -67,7 +65,7 @@ module _ (b : Board) (m : Map) (s : Holds b m) (z : AllZero b.places b.peers) wh
       (λ t.
       let there = found_passes (hits k) b.places free_place (rw s.places_long (ltb-true i 64 t)) in
       rw (c, t)
-      (peer_zero b.places b.peers i (heard (get_or b.peers i silent) r) ((and-eq-true_iff (get_or b.places i free_place).used _).0 there).0 z))
+      (peer_zero b.places b.peers i (heard (get_or b.peers i silent) r) (hits_taken k (get_or b.places i free_place) there) z))
       (λ t. rw (c, t) z))
 
   step_zero : (x : Call) → Stays x

@@ -1,18 +1,19 @@
 -- The loop over a stream: the lines from here on, put where the text stands, give the whole. Assumes nothing.
 use mathlib.Core.Path.{◌≡◌, refl, sym, ap, ap₂, ◌∙◌, subst}
-use mathlib.Core.List.{List}
+use mathlib.Core.List.{List, ◌++◌}
 use Prim.Native.Nat.{ℕ, ◌+◌, ◌-◌, ◌≤◌, ◌<◌}
 use native.Mathlib.Omega.{arith}
 use lib.ListN.{length, drop, length-append, length-drop}
 use lib.Seq.{sets}
+use Rattle.std.specs.declared.result.Result.TheVariants.{Ok, Err}
 use Rattle.writing.proofs.Sets.{sets_append}
-use Rattle.listing.specs.Text.{message_line}
+use Rattle.wire.specs.declared.Refusal.{Refusal}
+use Rattle.listing.specs.Text.{message_line, refused_line, end_line}
 use Rattle.listing.specs.Listing.{enough}
-use Rattle.listing.specs.Steps.{lines_from, row_at}
-use Rattle.listing.specs.declared.Answer.{Answer}
+use Rattle.listing.specs.Steps.{lines_from, RowAnswer, row_at}
 use Rattle.listing.specs.declared.Row.{Row}
 use Rattle.listing.proofs.Puts.{Ends}
-use Rattle.listing.proofs.Rows.{Tells, row_tells, by_row, lines_by_row}
+use Rattle.listing.proofs.Rows.{Tells, row_tells, by_row, lines_at_end, lines_by_row}
 
 -- all lines of s, put at start, are those from at on, put at to
 pub record Lists (s out₀ : List ℕ) (start : ℕ) (out : List ℕ) (at to : ℕ) : Type 0 where
@@ -27,52 +28,58 @@ pub starts : (s out : List ℕ) (start : ℕ) → Lists s out start out 0 start
 starts s out start = record { turns = length s; as_many = omega arith; inside = omega arith; long = refl; all_long = refl; so_far = λ h. refl }
 
 module _ (s out₀ : List ℕ) (start : ℕ) (out : List ℕ) (at to : ℕ) (g : Lists s out₀ start out at to) where
-  -- the lines from here on, by the row that was found here
-  abbrev pub here : Row → List ℕ
-  here r = by_row (g.turns - 1) at s r
+  -- what is put here is all that follows: it fits, and ends the listing
+  module _ (l : List ℕ) (e : lines_from g.turns at s ≡ l) where
+    pub asks : start + length (lines_from (length s) 0 s) ≤ enough → to + length l ≤ enough
+    asks h = omega (arith, g.all_long, ap length e, h)
 
-  lines_here : (r : Row) → r ≡ row_at (drop at s) → lines_from g.turns at s ≡ here r
-  lines_here r e = lines_by_row g.turns at s (omega (arith, length-drop at s, g.as_many)) ∙ ap here (sym e)
+    pub ended : (out' : List ℕ) (k : ℕ) → Ends out to l out' k → Ends out₀ start (lines_from (length s) 0 s) out' k
+    ended out' k x =
+        let n = ap length e in (
+          omega (arith, x.0, g.all_long, n),
+          λ h. x.1 (omega (arith, g.all_long, g.long, n, h)) ∙ ap (sets out to) (sym e) ∙ sym (g.so_far h),
+        )
 
-  pub tells : (r : Row) → r ≡ row_at (drop at s) → Tells (drop at s) r
-  tells r e = subst (Tells (drop at s)) (sym e) (row_tells (drop at s))
+  -- no byte is left here
+  pub nothing_left : length s ≤ at → lines_from g.turns at s ≡ end_line at
+  nothing_left h = lines_at_end g.turns at s (omega (arith, length-drop at s, h))
 
-  pub asks : (r : Row) → r ≡ row_at (drop at s) → start + length (lines_from (length s) 0 s) ≤ enough → to + length (here r) ≤ enough
-  asks r e h = omega (arith, g.all_long, ap length (lines_here r e), h)
+  -- some are: the lines by the row that was found
+  module _ (some : at < length s) where
+    lines_here : (r : RowAnswer) → r ≡ row_at (drop at s) → lines_from g.turns at s ≡ by_row (g.turns - 1) at s r
+    lines_here r e =
+        let n = length-drop at s in
+        lines_by_row g.turns at s (omega (arith, n, some)) (omega (arith, n, g.as_many)) ∙ ap (by_row (g.turns - 1) at s) (sym e)
 
-  -- a row that ends the listing was put
-  pub ended : (r : Row) → r ≡ row_at (drop at s) → (out' : List ℕ) (k : ℕ) → Ends out to (here r) out' k → Ends out₀ start (lines_from (length s) 0 s) out' k
-  ended r e out' k x =
-      let n = ap length (lines_here r e) in (
-        omega (arith, x.0, g.all_long, n),
-        λ h. x.1 (omega (arith, g.all_long, g.long, n, h)) ∙ ap (sets out to) (sym (lines_here r e)) ∙ sym (g.so_far h),
-      )
+    pub refused_here : (r : Refusal) → ◌≡◌ {A = RowAnswer} (Err r) (row_at (drop at s)) → lines_from g.turns at s ≡ refused_line at r.number ++ end_line at
+    refused_here r e = lines_here (Err r) e
 
-  -- the line of a message was put
-  module _ (k n : ℕ) (a : Answer) (e : Row.Message k n a ≡ row_at (drop at s)) where
-    pub within : (at < at + n) × (at + n ≤ length s)
-    within =
-        let t = tells (Row.Message k n a) e in
-        (omega (arith, t.0), omega (arith, t.1, length-drop at s, g.inside))
+    -- the line of a message is put
+    module _ (w : Row) (e : ◌≡◌ {A = RowAnswer} (Ok w) (row_at (drop at s))) where
+      tells : Tells (drop at s) (Ok w)
+      tells = subst (Tells (drop at s)) (sym e) (row_tells (drop at s))
 
-    pub asks_line : start + length (lines_from (length s) 0 s) ≤ enough → to + length (message_line at k n a) ≤ enough
-    asks_line h =
-        let x = asks (Row.Message k n a) e h in
-        omega (arith, x, length-append (message_line at k n a) (lines_from (g.turns - 1) (at + n) s))
+      pub within : (at < at + w.msg_len) × (at + w.msg_len ≤ length s)
+      within = (omega (arith, tells.0), omega (arith, tells.1, length-drop at s, g.inside))
 
-    pub turned : (out' : List ℕ) (to' : ℕ) → length out' ≡ length out → Ends out to (message_line at k n a) out' to' → Lists s out₀ start out' (at + n) to'
-    turned out' to' m x =
-        let t = tells (Row.Message k n a) e in
-        let l = lines_from (g.turns - 1) (at + n) s in
-        let q = lines_here (Row.Message k n a) e in
-        let j = length-append (message_line at k n a) l in
-        record {
-          turns = g.turns - 1;
-          as_many = omega (arith, g.as_many, t.0);
-          inside = within.1;
-          long = m ∙ g.long;
-          all_long = omega (arith, g.all_long, ap length q, j, x.0);
-          so_far = λ h.
-              g.so_far h ∙ ap (sets out to) q ∙ sets_append (message_line at k n a) l out to
-              ∙ ap₂ (λ (o : List ℕ) (i : ℕ). sets o i l) (sym (x.1 (omega (arith, g.all_long, g.long, ap length q, j, h)))) (sym x.0);
-        }
+      pub asks_line : start + length (lines_from (length s) 0 s) ≤ enough → to + length (message_line at w.kind w.msg_len w.answer) ≤ enough
+      asks_line h =
+          let x = asks (by_row (g.turns - 1) at s (Ok w)) (lines_here (Ok w) e) h in
+          omega (arith, x, length-append (message_line at w.kind w.msg_len w.answer) (lines_from (g.turns - 1) (at + w.msg_len) s))
+
+      pub turned : (out' : List ℕ) (to' : ℕ) → length out' ≡ length out → Ends out to (message_line at w.kind w.msg_len w.answer) out' to'
+          → Lists s out₀ start out' (at + w.msg_len) to'
+      turned out' to' m x =
+          let l = lines_from (g.turns - 1) (at + w.msg_len) s in
+          let q = lines_here (Ok w) e in
+          let j = length-append (message_line at w.kind w.msg_len w.answer) l in
+          record {
+            turns = g.turns - 1;
+            as_many = omega (arith, g.as_many, tells.0);
+            inside = within.1;
+            long = m ∙ g.long;
+            all_long = omega (arith, g.all_long, ap length q, j, x.0);
+            so_far = λ h.
+                g.so_far h ∙ ap (sets out to) q ∙ sets_append (message_line at w.kind w.msg_len w.answer) l out to
+                ∙ ap₂ (λ (o : List ℕ) (i : ℕ). sets o i l) (sym (x.1 (omega (arith, g.all_long, g.long, ap length q, j, h)))) (sym x.0);
+          }

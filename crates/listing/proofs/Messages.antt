@@ -5,10 +5,10 @@ use Prim.Native.Nat.{ℕ, zero, suc, ◌+◌, ◌-◌, ◌≤◌}
 use native.Mathlib.Omega.{arith}
 use lib.ListN.{length, drop, length-drop, take-append-drop}
 use lib.Seq.{drop-drop}
+use Rattle.std.specs.declared.result.Result.TheVariants.{Err}
 use Rattle.wire.specs.Parts.{end_from, AllAt}
 use Rattle.wire.specs.Walk.{Step, End, tail, fault, Walked, walk, next}
 use Rattle.splitter.specs.Read.{split_of}
-use Rattle.splitter.specs.declared.SplitAnswer.{SplitAnswer}
 use Rattle.splitter.specs.Stream.{Message, length_of, joined}
 use Rattle.splitter.proofs.Stream.{Stands}
 use Rattle.listing.specs.Listing.{kit}
@@ -17,7 +17,7 @@ use Rattle.listing.proofs.Rows.{Seen, none, refused, message, see}
 -- no byte is left at a place, or the splitter refuses what stands there
 abbrev pub Stops : List ℕ → ℕ → End → Type 0
 Stops s at (tail z) = at ≡ length s
-Stops s at (fault r) = split_of (drop at s) ≡ SplitAnswer.Refused r
+Stops s at (fault r) = split_of (drop at s) ≡ Err r
 
 abbrev pub end_of : ℕ → List Message → ℕ
 end_of at l = end_from length_of at l

@@ -10,9 +10,8 @@ use Rattle.wire.specs.Number as Number
 use Rattle.wire.specs.Refusal.{refusal}
 use Rattle.wire.specs.Bytes.{num_at, Bytes}
 use Rattle.wire.proofs.Bytes.{bytes_take, bytes_drop}
-use Rattle.writing.specs.Write.{after, Wrote}
-use Rattle.writing.specs.declared.WriteAnswer.{WriteAnswer}
-use Rattle.writing.specs.declared.WriteAnswer.TheVariants.{Written, Refused}
+use Rattle.std.specs.declared.result.Result.TheVariants.{Ok, Err}
+use Rattle.writing.specs.Write.{WriteAnswer, after, Wrote}
 use Rattle.writing.proofs.Answers.{does_write, wrote_determined}
 use Rattle.splitter.specs.Shown.{ByItsType}
 use Rattle.splitter.proofs.Promises.{by_its_type}
@@ -30,15 +29,15 @@ module _ (s out out' : List ℕ) (p : Bytes s) (r : WriteAnswer) (wrote : Wrote 
   output = wrote.left ∙ ap (λ (x : WriteAnswer). after x (text s) out) (sym wrote.answered)
 
   -- Where the output has room for the text, the text stands at its start, and nothing past it differs.
-  pub lists : length (text s) ≤ length out → (r ≡ Written (length (text s))) × (out' ≡ text s ++ drop (length (text s)) out)
+  pub lists : length (text s) ≤ length out → (r ≡ Ok (length (text s))) × (out' ≡ text s ++ drop (length (text s)) out)
   lists h =
-      let e : r ≡ Written (length (text s)) = wrote.answered ∙ does_write true (length (text s)) (length out) refl (omega (arith, text_short s p)) h in
+      let e : r ≡ Ok (length (text s)) = wrote.answered ∙ does_write true (length (text s)) (length out) refl (omega (arith, text_short s p)) h in
       (e, output ∙ ap (λ (x : WriteAnswer). after x (text s) out) e)
 
   -- Where it has not, the answer is NoRoom and no byte differs: there is no other refusal.
-  pub no_room : length out < length (text s) → (r ≡ Refused (refusal Number.NoRoom 0)) × (out' ≡ out)
+  pub no_room : length out < length (text s) → (r ≡ Err (refusal Number.NoRoom 0)) × (out' ≡ out)
   no_room h =
-      let e : r ≡ Refused (refusal Number.NoRoom 0) =
+      let e : r ≡ Err (refusal Number.NoRoom 0) =
       wrote.answered ∙ rw (le-ltb Number.limit (length (text s)) (omega (arith, text_short s p)), lt-ltb (length out) (length (text s)) h) in
       (e, output ∙ ap (λ (x : WriteAnswer). after x (text s) out) e)
 

@@ -10,7 +10,7 @@ use lib.ListN.{length}
 use Rattle.wire.specs.Number as Number
 use Rattle.wire.specs.Bytes.{Bytes}
 use Rattle.writing.specs.Write.{put_at, write_answer, Wrote}
-use Rattle.writing.specs.declared.WriteAnswer.TheVariants.{Written}
+use Rattle.std.specs.declared.result.Result.TheVariants.{Ok}
 use Rattle.writing.proofs.Answers.{does_write, put_there}
 use Rattle.listing.specs.Text.{heading, refused_line, end_line}
 use Rattle.listing.specs.Listing.{longest, text, enough}
@@ -37,9 +37,9 @@ module _ (s b : List ℕ) (e : text s ≡ heading ++ b) where
 
 -- an output that has room for any text takes it at once
 pub written_at_once : (s out out' : List ℕ) (k : ℕ) → Bytes s → enough ≤ length out → k ≡ length (text s) → Puts out 0 (text s) out'
-    → Wrote true (text s) out (Written k) out'
+    → Wrote true (text s) out (Ok k) out'
 written_at_once s out out' k b h e p =
     let n = text_short s b in
-    let asked : Written k ≡ write_answer true k (length out) =
+    let asked : Ok k ≡ write_answer true k (length out) =
     sym (does_write true k (length out) refl (omega (arith, n, e)) (omega (arith, n, e, h))) in
-    put_there true (text s) out k (λ _. sym e) (Written k) asked k refl out' (p (omega (arith, n, h)))
+    put_there true (text s) out k (λ _. sym e) (Ok k) asked k refl out' (p (omega (arith, n, h)))

@@ -1,5 +1,5 @@
 -- The listing of a BMP stream: the messages that are split off it one after the other, and the text that says so.
-use Rattle.std.specs.Prelude.{ℕ, ◌+◌, List, [], ◌∷◌, ◌++◌, length, drop, ltb, eqb}
+use Rattle.std.specs.Prelude.{ℕ, ◌+◌, List, [], ◌∷◌, ◌++◌, length, drop, ltb, eqb, Option, Some, None}
 use Rattle.wire.specs.Number as Number
 use Rattle.wire.specs.Bytes.{pick}
 use Rattle.wire.specs.Refusal.{refusal}
@@ -7,9 +7,8 @@ use Rattle.wire.specs.Walk.{Step, stop, End, tail, fault, Walked, Kit, walk}
 use Rattle.common_header.specs.declared.BmpCommonHeader.{BmpCommonHeader}
 use Rattle.splitter.specs.Read.{split_of}
 use Rattle.splitter.specs.Stream.{Message, known, skipped, fields_of, length_of, as_step, messages_by}
-use Rattle.message_answer.specs.Answer.{answer_of}
+use Rattle.message_answer.specs.Answer.{number, answer_of}
 use Rattle.listing.specs.Text.{heading, message_line, refused_line, end_line}
-use Rattle.listing.specs.declared.Answer.{Answer}
 
 -- the longest stream that is listed
 abbrev pub longest : ℕ
@@ -17,12 +16,12 @@ longest = 65536
 
 -- the number of a message: its type says how what follows the six bytes of the common header is read
 abbrev pub number_of : BmpCommonHeader → List ℕ → ℕ
-number_of h b = answer_of h.msg_type (drop 6 b)
+number_of h b = number (answer_of h.msg_type (drop 6 b))
 
--- what a message is answered with; of one that is skipped no byte behind the header is looked at
-abbrev pub answer : Message → Answer
-answer (known h b) = Answer.Number (number_of h b)
-answer (skipped f b) = Answer.Skip
+-- what a message is answered with, none where it is skipped; of such a one no byte behind the header is looked at
+abbrev pub answer : Message → Option ℕ
+answer (known h b) = Some (number_of h b)
+answer (skipped f b) = None
 
 -- ---- the messages of a stream
 -- the splitter is asked while bytes are left

@@ -5,11 +5,10 @@
 --     11 7 6 skip                  a message of a type that RFC 7854 does not have, in the same way: it is skipped
 --     17 - - 3                     no message is split off here: the place, and the number of the splitter's refusal
 --     end 17                       the place after the last message
-use Rattle.std.specs.Prelude.{ℕ, List, [], ◌∷◌, ◌++◌}
+use Rattle.std.specs.Prelude.{ℕ, List, [], ◌∷◌, ◌++◌, Option, Some, None}
 use Prim.Native.Char.{code}
 use Prim.Native.String.{String}
 use Rattle.decimal.specs.Decimal.{decimal}
-use Rattle.listing.specs.declared.Answer.{Answer}
 
 -- the codes of a text's characters
 abbrev pub ascii : String → List ℕ
@@ -25,11 +24,12 @@ line (f ∷ g ∷ l) = f ++ (ascii " " ++ line (g ∷ l))
 abbrev pub heading : List ℕ
 heading = line (ascii "place" ∷ ascii "type" ∷ ascii "length" ∷ ascii "answer" ∷ [])
 
-abbrev pub answer_text : Answer → List ℕ
-answer_text (Answer.Number n) = decimal n
-answer_text Answer.Skip = ascii "skip"
+-- the number that a message is answered with, or that it is skipped
+abbrev pub answer_text : Option ℕ → List ℕ
+answer_text (Some n) = decimal n
+answer_text None = ascii "skip"
 
-abbrev pub message_line : (place kind length : ℕ) → Answer → List ℕ
+abbrev pub message_line : (place kind length : ℕ) → Option ℕ → List ℕ
 message_line place kind length answer = line (decimal place ∷ decimal kind ∷ decimal length ∷ answer_text answer ∷ [])
 
 abbrev pub refused_line : (place number : ℕ) → List ℕ

@@ -4,13 +4,15 @@
 ghost use Rattle.std.specs.Prelude.{◌≡◌, true, [], ◌∷◌, ◌++◌, ◌+◌, ◌≤◌, length, drop};
 ghost use Rattle.writing.specs.Write.{Wrote};
 ghost use Rattle.decimal.specs.Decimal.{decimal};
+ghost use Rattle.message_answer.specs.Answer.{number};
 ghost use Rattle.listing.specs.Text.{answer_text, message_line, refused_line, end_line};
 ghost use Rattle.listing.specs.Listing.{longest, enough, text};
 ghost use Rattle.listing.specs.Steps.{lines_from, row_at, Puts};
 
 use common_header::COMMON_HEADER;
-use splitter::SplitAnswer;
-use writing::WriteAnswer;
+use numbers_writer::PutNumber;
+use splitter::Split;
+use wire::Refusal;
 
 // The longest stream that is listed.
 pub const LONGEST: usize = 65_536;
@@ -18,36 +20,25 @@ pub const LONGEST: usize = 65_536;
 // An output of this size has room for every listing.
 pub const ENOUGH: usize = 196_656;
 
-// What a message is answered with: a number, or that it is skipped.
+// What the line of a message says behind its place: the type, the length, and the number that it is answered with, or none where it is skipped.
 #[derive(Clone, Copy)]
-enum Answer {
-    Number(usize),
-    Skip,
-}
-
-// What stands at a place of a stream: nothing more, the type, length and answer of a message, or why none is split off.
-#[derive(Clone, Copy)]
-enum Row {
-    End,
-    Message(usize, usize, Answer),
-    Refused(usize),
+struct Row {
+    kind: u8,
+    msg_len: u32,
+    answer: Option<u8>,
 }
 
 // Lists the messages of a stream of at most 65,536 bytes, all of the text or, where the output is too short for it, none.
-pub fn list_messages(s: &[u8], out: &mut [u8]) -> WriteAnswer
+pub fn list_messages(s: &[u8], out: &mut [u8]) -> Result<usize, Refusal>
     ensures { Wrote true (text s.now) out.old result out.new }
 {
     if ENOUGH <= out.len() {
-        return WriteAnswer::Written(put_text(s, out));
+        return Ok(put_text(s, out));
     }
     let mut nowhere = [0u8; 0];
     let length = put_text(s, &mut nowhere);
-    let answer = writing::write_answer(true, length, out.len());
-    let WriteAnswer::Written(_) = answer else {
-        return answer;
-    };
-    put_text(s, out);
-    answer
+    writing::write_answer(true, length, out.len())?;
+    Ok(put_text(s, out))
 }
 
 // Each put answers the place after its text, also where the output has no room for it.
@@ -57,7 +48,7 @@ fn put_text(s: &[u8], out: &mut [u8]) -> usize
 {
     writing::put_bytes(out, 0, b"place type length answer\n");
     if LONGEST < s.len() {
-        return put_refusal(out, 25, 0, wire::TOO_LONG as usize);
+        return put_refusal(out, 25, 0, wire::TOO_LONG);
     }
     put_lines(s, out, 25)
 }
@@ -70,72 +61,71 @@ fn put_lines(s: &[u8], out: &mut [u8], start: usize) -> usize
 {
     let mut at: usize = 0;
     let mut to = start;
-    loop {
-        let row = row_at(s, at);
-        match row {
-            Row::End => return put_end_line(out, to, at),
-            Row::Refused(number) => return put_refusal(out, to, at, number),
-            Row::Message(kind, msg_len, answer) => {
-                to = put_message_line(out, to, at, kind, msg_len, answer);
-                at += msg_len;
-            }
-        }
+    while at < s.len() {
+        let row = match row_at(s, at) {
+            Ok(row) => row,
+            Err(refusal) => return put_refusal(out, to, at, refusal.number),
+        };
+        to = put_message_line(out, to, at, row);
+        at += row.msg_len as usize;
     }
+    put_end_line(out, to, at)
 }
 
-fn row_at(s: &[u8], at: usize) -> Row
+// The row of the message that stands at a place, or why none is split off there.
+fn row_at(s: &[u8], at: usize) -> Result<Row, Refusal>
     requires { at ≤ length s.now }
     ensures { result ≡ row_at (drop at s.now) }
 {
     let rest = &s[at..];
-    if rest.len() == 0 {
-        return Row::End;
-    }
-    match splitter::split_message(rest) {
-        SplitAnswer::Message(header, message) => {
+    match splitter::split_message(rest)? {
+        Split::Message(header, message) => {
             let msg_type = header.msg_type;
             let whole = message.part(rest);
             let answer = message_answer::answer_of(msg_type, &whole[COMMON_HEADER..]);
-            Row::Message(
-                common_header::kind_of(msg_type) as usize,
-                header.msg_len as usize,
-                Answer::Number(answer as usize),
-            )
+            Ok(Row {
+                kind: common_header::kind_of(msg_type),
+                msg_len: header.msg_len,
+                answer: Some(number_of(answer)),
+            })
         }
-        SplitAnswer::Skipped(fields, _) => {
-            Row::Message(fields.kind as usize, fields.msg_len as usize, Answer::Skip)
-        }
-        SplitAnswer::Refused(refusal) => Row::Refused(refusal.number as usize),
+        Split::Skipped(fields, _) => Ok(Row {
+            kind: fields.kind,
+            msg_len: fields.msg_len,
+            answer: None,
+        }),
     }
 }
 
-fn put_message_line(
-    out: &mut [u8],
-    at: usize,
-    place: usize,
-    kind: usize,
-    msg_len: usize,
-    answer: Answer,
-) -> usize
-    requires { at + length (message_line place kind msg_len answer) ≤ enough }
-    ensures value { result ≡ at + length (message_line place kind msg_len answer) }
-    ensures puts { Puts out.old at (message_line place kind msg_len answer) out.new }
+fn number_of(answer: Result<(), Refusal>) -> u8
+    ensures { result ≡ number answer }
+{
+    match answer {
+        Ok(()) => wire::GOOD,
+        Err(refusal) => refusal.number,
+    }
+}
+
+fn put_message_line(out: &mut [u8], at: usize, place: usize, row: Row) -> usize
+    requires { at + length (message_line place row.kind row.msg_len row.answer) ≤ enough }
+    ensures value { result ≡ at + length (message_line place row.kind row.msg_len row.answer) }
+    ensures puts { Puts out.old at (message_line place row.kind row.msg_len row.answer) out.new }
 {
     let after_place = put_field(out, at, place, b' ');
-    let after_kind = put_field(out, after_place, kind, b' ');
-    let after_length = put_field(out, after_kind, msg_len, b' ');
-    put_answer(out, after_length, answer)
+    let after_kind = put_field(out, after_place, row.kind as usize, b' ');
+    let after_length = put_field(out, after_kind, row.msg_len as usize, b' ');
+    put_answer(out, after_length, row.answer)
 }
 
 // The last field of a message's line, with the newline.
-fn put_answer(out: &mut [u8], at: usize, answer: Answer) -> usize
+fn put_answer(out: &mut [u8], at: usize, answer: Option<u8>) -> usize
     requires { at + length (answer_text answer ++ (10 ∷ [])) ≤ enough }
     ensures value { result ≡ at + length (answer_text answer ++ (10 ∷ [])) }
     ensures puts { Puts out.old at (answer_text answer ++ (10 ∷ [])) out.new }
 {
     match answer {
-        Answer::Number(n) => put_field(out, at, n, b'\n'),
-        Answer::Skip => {
+        Some(number) => put_field(out, at, number as usize, b'\n'),
+        None => {
             writing::put_bytes(out, at, b"skip\n");
             at + 5
         }
@@ -143,14 +133,14 @@ fn put_answer(out: &mut [u8], at: usize, answer: Answer) -> usize
 }
 
 // The line of the splitter's refusal, and the last line, which has the same place.
-fn put_refusal(out: &mut [u8], at: usize, place: usize, number: usize) -> usize
+fn put_refusal(out: &mut [u8], at: usize, place: usize, number: u8) -> usize
     requires { at + length (refused_line place number ++ end_line place) ≤ enough }
     ensures value { result ≡ at + length (refused_line place number ++ end_line place) }
     ensures puts { Puts out.old at (refused_line place number ++ end_line place) out.new }
 {
     let after_place = put_field(out, at, place, b' ');
     writing::put_bytes(out, after_place, b"- - ");
-    let after_number = put_field(out, after_place + 4, number, b'\n');
+    let after_number = put_field(out, after_place + 4, number as usize, b'\n');
     put_end_line(out, after_number, place)
 }
 
@@ -170,6 +160,6 @@ fn put_field(out: &mut [u8], at: usize, n: usize, after: u8) -> usize
     ensures puts { Puts out.old at (decimal n ++ (after ∷ [])) out.new }
 {
     let next = at + decimal::put_decimal(out, at, n);
-    numbers_writer::put_u8(out, next, after);
+    after.put(out, next);
     next + 1
 }

@@ -4,9 +4,10 @@
 --     types 4, 5            the body
 --
 -- A body may end in a tail of its own, as its grammar says. Nothing here goes by a reader.
-use Rattle.std.specs.Prelude.{ℕ, ◌≤◌, ◌≡◌, List, length}
+use Rattle.std.specs.Prelude.{ℕ, ◌≤◌, ◌≡◌, List, length, Result, Ok}
 use Rattle.wire.specs.Number as Number
 use Rattle.wire.specs.Exactly.{Readable}
+use Rattle.wire.specs.declared.Refusal.{Refusal}
 use Rattle.models.specs.declared.Afi.{Afi}
 use Rattle.models.specs.declared.Afi.TheVariants.{Ipv4, Ipv6}
 use Rattle.common_header.specs.declared.BmpMsgType.{BmpMsgType}
@@ -44,6 +45,9 @@ pub record HasReading (t : BmpMsgType) (s : List ℕ) : Type 0 where
   pub not_too_long : length s ≤ Number.limit
   pub message : Message t s
 
--- a number is 0 exactly where there is a reading
+-- an answer is Ok exactly where there is a reading, and so is its number 0
+abbrev pub OkExactly : BmpMsgType → List ℕ → Result (Unit {0}) Refusal → Type 0
+OkExactly t s a = (a ≡ Ok tt → HasReading t s) × (HasReading t s → a ≡ Ok tt)
+
 abbrev pub GoodExactly : BmpMsgType → List ℕ → ℕ → Type 0
 GoodExactly t s n = (n ≡ Number.Good → HasReading t s) × (HasReading t s → n ≡ Number.Good)

@@ -7,6 +7,7 @@ use borrow.Author.Tests.{ltb-true, ltb-false, eq-eqb, ne_eqb, lt-ltb, le-ltb}
 use lib.Dec.{ltb}
 use lib.ListN.{length, take}
 use lib.Seq.{paste, paste-zero}
+use Rattle.std.specs.declared.option.Option.TheVariants.{Some, None}
 use Rattle.wire.specs.Number as Number
 use Rattle.wire.specs.Refusal.{refusal}
 use Rattle.wire.specs.declared.Refusal.{Refusal}
@@ -23,11 +24,6 @@ module _ (b : List ℕ) (st : Receiver) (xs : List ℕ) where
   pub refused_so : (r : Refusal) (a : Received) → receive_of b st xs ≡ refused st r → a ≡ refused st r → Answers a b
   refused_so r a e f = (f ∙ sym e, paste-zero b st.held xs ∙ ap (λ (x : Received). paste b st.held xs x.took) (sym e))
 
-  -- one that is not has the bytes taken in it
-  pub taken_so : receive_of b st xs ≡ taken (take st.held b) xs → (a : Received) (b' : List ℕ)
-      → (a ≡ taken (take st.held b) xs) × (b' ≡ paste b st.held xs a.took) → Answers a b'
-  taken_so t a b' e = (e.0 ∙ sym t, e.1 ∙ ap (λ (x : Received). paste b st.held xs x.took) (e.0 ∙ sym t))
-
   pub other_size : (length b ≡ room → ⊥) → receive_of b st xs ≡ refused st (refusal Number.NoRoom 0)
   unfolding receive_of
   other_size n = rw (ne_eqb (length b) room n)
@@ -38,25 +34,25 @@ module _ (b : List ℕ) (st : Receiver) (xs : List ℕ) where
     too_long l = rw (eq-eqb (length b) room size, lt-ltb longest_piece (length xs) l)
 
     module _ (short : length xs ≤ longest_piece) where
-      pub stands : (st.standing.number ≡ Number.Good → ⊥) → receive_of b st xs ≡ refused st st.standing
+      pub stands : (r : Refusal) → st.standing ≡ Some r → receive_of b st xs ≡ refused st r
       unfolding receive_of
-      stands n = rw (eq-eqb (length b) room size, le-ltb longest_piece (length xs) short, ne_eqb st.standing.number Number.Good n)
+      stands r e = rw (eq-eqb (length b) room size, le-ltb longest_piece (length xs) short, e)
 
-      module _ (free : st.standing.number ≡ Number.Good) where
+      module _ (free : st.standing ≡ None) where
         pub held_outside : length b < st.held → receive_of b st xs ≡ refused st (refusal Number.BadField 0)
         unfolding receive_of
-        held_outside l = rw (eq-eqb (length b) room size, le-ltb longest_piece (length xs) short, eq-eqb st.standing.number Number.Good free, lt-ltb (length b) st.held l)
+        held_outside l = rw (eq-eqb (length b) room size, le-ltb longest_piece (length xs) short, free, lt-ltb (length b) st.held l)
 
         module _ (inside : st.held ≤ length b) where
           pub not_a_start : waiting (judge_of (take st.held b)) ≡ false → receive_of b st xs ≡ refused st (refusal Number.BadField 0)
           unfolding receive_of
           not_a_start w =
-              rw (eq-eqb (length b) room size, le-ltb longest_piece (length xs) short, eq-eqb st.standing.number Number.Good free, le-ltb (length b) st.held inside, w)
+              rw (eq-eqb (length b) room size, le-ltb longest_piece (length xs) short, free, le-ltb (length b) st.held inside, w)
 
           pub goes_on : waiting (judge_of (take st.held b)) ≡ true → receive_of b st xs ≡ taken (take st.held b) xs
           unfolding receive_of
           goes_on w =
-              rw (eq-eqb (length b) room size, le-ltb longest_piece (length xs) short, eq-eqb st.standing.number Number.Good free, le-ltb (length b) st.held inside, w)
+              rw (eq-eqb (length b) room size, le-ltb longest_piece (length xs) short, free, le-ltb (length b) st.held inside, w)
 
         -- one of the two: there are not so many, or they do not wait
         pub bad_held : (st.held ≤ length b → waiting (judge_of (take st.held b)) ≡ false) → receive_of b st xs ≡ refused st (refusal Number.BadField 0)

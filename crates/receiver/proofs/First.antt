@@ -8,6 +8,7 @@ use borrow.Author.Tests.{ltb-true, ltb-false}
 use lib.Dec.{ltb}
 use lib.ListN.{length, take, drop, take-append-drop}
 use lib.Seq.{length-take-le, take-length}
+use Rattle.std.specs.declared.result.Result.TheVariants.{Err}
 use Rattle.wire.specs.Number as Number
 use Rattle.wire.specs.Bytes.{num_at}
 use Rattle.wire.specs.Refusal.{refusal}
@@ -16,16 +17,14 @@ use Rattle.wire.specs.declared.Refusal.{Refusal}
 use Rattle.splitter.specs.Shown.{handed_out}
 use Rattle.splitter.specs.Read as Read
 use Rattle.splitter.specs.Read.{split_of}
-use Rattle.splitter.specs.declared.SplitAnswer.{SplitAnswer}
 use Rattle.splitter.proofs.Laws.{Fitting, fitting_shown, BadLength, below_6, above_limit, handed_either}
 use Rattle.splitter.proofs.Cases.{length_in, fields_in, Headed, split_version, split_headed, number_more}
-use Rattle.receiver.specs.Receive.{room, stream_too_big, outcome_of, judge_of, waiting, took_of}
+use Rattle.receiver.specs.Receive.{Judgement, room, stream_too_big, outcome_of, judge_of, waiting, took_of}
 use Rattle.receiver.specs.Steps.{first_run, refused_run}
-use Rattle.receiver.specs.declared.Outcome.{Outcome}
 use Rattle.receiver.proofs.Judging.{by_version, by-header, Judged, in_header, in_body, refused, too-big, message, judged, waits_early, waits_in_body, says_too_big}
 use Rattle.receiver.proofs.Runs.{took_all, took_ended}
 
-pub record First (xs : List ℕ) (k : ℕ) (o : Outcome) : Type 0 where
+pub record First (xs : List ℕ) (k : ℕ) (o : Judgement) : Type 0 where
   pub within : k ≤ length xs
   pub took : took_of [] xs ≡ k
   pub judged_so : judge_of (take k xs) ≡ o
@@ -73,10 +72,10 @@ module _ (xs : List ℕ) (most : length xs ≤ room) where
           let long = many xs most j there in
           waits_in_body (take j xs) (omega (arith, long, there, most)) (headed xs most j there w six) (omega (arith, same, low)) (omega (arith, same, high)) (omega (arith, same, long, l))
 
-  all_of_it : (o : Outcome) → judge_of xs ≡ o → ((j : ℕ) → 0 < j → j ≤ length xs → waiting (judge_of (take j xs)) ≡ true) → First xs (length xs) o
+  all_of_it : (o : Judgement) → judge_of xs ≡ o → ((j : ℕ) → 0 < j → j ≤ length xs → waiting (judge_of (take j xs)) ≡ true) → First xs (length xs) o
   all_of_it o e q = record { within = omega arith; took = took_all [] xs q; judged_so = ap judge_of (take-length xs) ∙ e }
 
-  sixth_brings : Headed xs → (r : Refusal) → judge_of (take 6 xs) ≡ Outcome.Refused r → First xs 6 (Outcome.Refused r)
+  sixth_brings : Headed xs → (r : Refusal) → judge_of (take 6 xs) ≡ Err r → First xs 6 (Err r)
   sixth_brings w r e =
       record {
         within = w.six;
@@ -84,23 +83,23 @@ module _ (xs : List ℕ) (most : length xs ≤ room) where
         judged_so = e;
       }
 
-  first_brings : 0 < length xs → (num_at 1 xs 0 ≡ 3 → ⊥) → First xs 1 (Outcome.Refused (refusal Number.BadVersion 0))
+  first_brings : 0 < length xs → (num_at 1 xs 0 ≡ 3 → ⊥) → First xs 1 (Err (refusal Number.BadVersion 0))
   unfolding judge_of
   first_brings one v =
       let long = many xs most 1 one in
-      let e : judge_of (take 1 xs) ≡ Outcome.Refused (refusal Number.BadVersion 0) =
+      let e : judge_of (take 1 xs) ≡ Err (refusal Number.BadVersion 0) =
       ap (outcome_of (take 1 xs)) (split_version (take 1 xs) (omega (arith, long)) (omega (arith, long)) (λ z. v (sym (same_number xs most 1 one 1 0 (omega arith)) ∙ z))) in
       record { within = one; took = took_ended 1 [] xs (omega arith) one (λ j p l. absurd (omega (arith, p, l))) (ap waiting e); judged_so = e }
 
-  header_brings : (w : Headed xs) (r : Refusal) → BadLength r → ((there : ℕ) → Read.judged there (fields_in xs) ≡ SplitAnswer.Refused r) → First xs (refused_run r.number) (Outcome.Refused r)
+  header_brings : (w : Headed xs) (r : Refusal) → BadLength r → ((there : ℕ) → Read.judged there (fields_in xs) ≡ Err r) → First xs (refused_run r.number) (Err r)
   unfolding judge_of
   header_brings w r b e = go r b (ap (outcome_of (take 6 xs)) (splits xs most 6 w.six w (omega arith) ∙ e (length (take 6 xs))))
     where
-      go : (r : Refusal) → BadLength r → judge_of (take 6 xs) ≡ outcome_of (take 6 xs) (SplitAnswer.Refused r) → First xs (refused_run r.number) (Outcome.Refused r)
+      go : (r : Refusal) → BadLength r → judge_of (take 6 xs) ≡ outcome_of (take 6 xs) (Err r) → First xs (refused_run r.number) (Err r)
       go r below_6 j = sixth_brings w r j
       go r above_limit j = sixth_brings w r j
 
-  size_brings : (w : Headed xs) → room < length_in xs → length_in xs ≤ Number.limit → judge_of (take 6 xs) ≡ Outcome.Refused stream_too_big
+  size_brings : (w : Headed xs) → room < length_in xs → length_in xs ≤ Number.limit → judge_of (take 6 xs) ≡ Err stream_too_big
   size_brings w big limited =
       let long = many xs most 6 w.six in
       let same = same_length xs most 6 w.six w (omega arith) in
@@ -124,10 +123,10 @@ module _ (xs : List ℕ) (most : length xs ≤ room) where
         judged_so = e;
       }
 
-  first_of : (o : Outcome) → Judged xs o → judge_of xs ≡ o → First xs (first_run o (length xs)) o
+  first_of : (o : Judgement) → Judged xs o → judge_of xs ≡ o → First xs (first_run o (length xs)) o
   first_of _ (in_header m l v u) e = all_of_it _ e (λ j p q. early xs most j q p (omega (arith, q, l)) (v (omega (arith, p, q))))
   first_of _ (in_body w l u f) e = all_of_it _ e (λ j p q. in_message w l u j p q (omega (arith, q, f)))
-  first_of _ (refused r s c p (by_version one v q)) e = subst (λ (x : Refusal). First xs (first_run (Outcome.Refused x) (length xs)) (Outcome.Refused x)) (sym q) (first_brings one v)
+  first_of _ (refused r s c p (by_version one v q)) e = subst (λ (x : Refusal). First xs (first_run (Err x) (length xs)) (Err x)) (sym q) (first_brings one v)
   first_of _ (refused r s c p (by-header w b k)) e = header_brings w r b k
   first_of _ (too-big w l u) e = sixth_brings w stream_too_big (size_brings w l u)
   first_of _ (message w f) e =

@@ -8,12 +8,15 @@ use native.Mathlib.Omega.{arith}
 use lib.Dec.{ltb, eqb}
 use lib.ListN.{length, take}
 use lib.Seq.{length-take-le}
+use Rattle.std.specs.declared.result.Result.TheVariants.{Ok, Err}
+use Rattle.std.specs.declared.option.Option.{Option}
+use Rattle.std.specs.declared.option.Option.TheVariants.{Some, None}
 use Rattle.wire.specs.Number as Number
 use Rattle.wire.specs.Refusal.{refusal}
 use Rattle.wire.specs.declared.Refusal.{Refusal}
 use Rattle.wire.proofs.Determined.{determined}
 use Rattle.wire.proofs.Refuses.{pick_in}
-use Rattle.receiver.specs.Receive.{room, longest_piece, stream_too_big, SaysTooBig, judge_of, waiting, took_of, holding, fresh, settled_by, settled, taken, unfinished, refused, receive_of, buffer_of}
+use Rattle.receiver.specs.Receive.{room, longest_piece, stream_too_big, SaysTooBig, judge_of, waiting, took_of, holding, fresh, settled_by, settled, taken, unfinished, refused, unless_standing, receive_of, buffer_of}
 use Rattle.receiver.specs.declared.Outcome.{Outcome}
 use Rattle.receiver.specs.declared.Receiver.{Receiver}
 use Rattle.receiver.specs.declared.Received.{Received}
@@ -41,15 +44,15 @@ module _ (b : List ℕ) (st : Receiver) (xs : List ℕ) where
 
     module _ (short : length xs ≤ longest_piece) where
       -- Then a refusal that stands is given again, as it was.
-      pub stands : (st.standing.number ≡ Number.Good → ⊥) → Leaves st.standing
-      stands n = leaves _ (Calls.stands b st xs size short n)
+      pub stands : (r : Refusal) → st.standing ≡ Some r → Leaves r
+      stands r e = leaves r (Calls.stands b st xs size short r e)
 
       -- Then held bytes that are not the start of an unfinished message are BadField: there are not so many, or they do not wait for more.
-      pub bad_held : st.standing.number ≡ Number.Good → (st.held ≤ length b → waiting (judge_of (take st.held b)) ≡ false) → Leaves (refusal Number.BadField 0)
+      pub bad_held : st.standing ≡ None → (st.held ≤ length b → waiting (judge_of (take st.held b)) ≡ false) → Leaves (refusal Number.BadField 0)
       bad_held free n = leaves _ (Calls.bad_held b st xs size short free n)
 
       -- Else the bytes decide, and only then: they are taken as long as those since the last boundary wait.
-      pub goes_on : st.standing.number ≡ Number.Good → st.held ≤ length b → waiting (judge_of (take st.held b)) ≡ true
+      pub goes_on : st.standing ≡ None → st.held ≤ length b → waiting (judge_of (take st.held b)) ≡ true
           → receive_of b st xs ≡ taken (take st.held b) xs
       goes_on free inside w = Calls.goes_on b st xs size short free inside w
 
@@ -59,15 +62,19 @@ module _ (b : List ℕ) (st : Receiver) (xs : List ℕ) where
   took_within =
       pick_in P (not (eqb (length b) room)) (omega arith)
       (pick_in P (ltb longest_piece (length xs)) (omega arith)
-      (pick_in P (not (eqb st.standing.number Number.Good)) (omega arith)
+      (unless st.standing _
       (pick_in P (not (unfinished b st.held)) (omega arith) (Runs.took_within (take st.held b) xs))))
     where
       P : Received → Type 0
       P a = a.took ≤ length xs
 
+      unless : (s : Option Refusal) (a : Received) → P a → P (unless_standing st s a)
+      unless (Some r) a x = omega arith
+      unless None a x = x
+
 -- A piece of no bytes, where it is not refused, takes nothing, brings nothing and leaves the state: what waits goes on waiting.
-pub no_bytes : (b : List ℕ) (st : Receiver) (m : ℕ) → length b ≡ room → st.standing.number ≡ Number.Good → st.held ≤ length b → judge_of (take st.held b) ≡ Outcome.Waiting m
-    → receive_of b st [] ≡ record { took = 0; outcome = Outcome.Waiting m; state = holding st.held }
+pub no_bytes : (b : List ℕ) (st : Receiver) (m : ℕ) → length b ≡ room → st.standing ≡ None → st.held ≤ length b → judge_of (take st.held b) ≡ Ok (Outcome.Waiting m)
+    → receive_of b st [] ≡ record { took = 0; outcome = Ok (Outcome.Waiting m); state = holding st.held }
 unfolding took_of
 no_bytes b st m size free inside w =
     let all : take st.held b ++ [] ≡ take st.held b = append-nil (take st.held b) in
@@ -75,14 +82,14 @@ no_bytes b st m size free inside w =
 
 -- ---- StreamTooBig is brought by a header whose length field is from 65,537 to 1,048,576, and by nothing else.
 pub too_big_exactly : (h : List ℕ) → length h ≤ room
-    → (judge_of h ≡ Outcome.Refused stream_too_big) ↔ SaysTooBig h
+    → (judge_of h ≡ Err stream_too_big) ↔ SaysTooBig h
 too_big_exactly h most = (Sizes.says h most, Sizes.brings h most)
 
 -- ---- What Waiting says: so many bytes are missing at least. With fewer the message waits for the rest of them.
-pub missing_some : (h : List ℕ) (m : ℕ) → judge_of h ≡ Outcome.Waiting m → 0 < m
+pub missing_some : (h : List ℕ) (m : ℕ) → judge_of h ≡ Ok (Outcome.Waiting m) → 0 < m
 missing_some = Missing.missing_some
 
-pub fewer_wait : (h t : List ℕ) (m : ℕ) → length (h ++ t) ≤ room → judge_of h ≡ Outcome.Waiting m → length t < m → judge_of (h ++ t) ≡ Outcome.Waiting (m - length t)
+pub fewer_wait : (h t : List ℕ) (m : ℕ) → length (h ++ t) ≤ room → judge_of h ≡ Ok (Outcome.Waiting m) → length t < m → judge_of (h ++ t) ≡ Ok (Outcome.Waiting (m - length t))
 fewer_wait = Missing.fewer_wait
 
 -- ---- any two answers, and any two buffers, that the contracts allow are equal

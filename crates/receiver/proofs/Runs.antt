@@ -2,18 +2,18 @@
 use mathlib.Core.Path.{◌≡◌, refl, sym, ap, ◌∙◌}
 use mathlib.Core.Bool.{Bool, true, false, true≢false}
 use mathlib.Core.List.{List, [], ◌∷◌, ◌++◌, append_assoc}
-use Prim.Native.Nat.{ℕ, zero, suc, ◌+◌, ◌-◌, ◌≤◌, ◌<◌}
+use Prim.Native.Nat.{ℕ, zero, suc, ◌+◌, ◌-◌, ◌≤◌, ◌<◌, min}
 use native.Mathlib.Omega.{arith}
 use native.Mathlib.Nat.{add-zero}
-use borrow.Author.Tests.{ltb-true, ltb-false, eqb-true, eqb-false, le-ltb}
-use lib.Dec.{ltb, eqb}
+use borrow.Author.Tests.{leb-true, leb-false}
+use lib.Dec.{leb}
 use lib.ListN.{length, take, drop, length-append, length-drop}
 use lib.Seq.{length-take-le, drop-length}
+use Rattle.std.specs.declared.result.Result.TheVariants.{Ok}
 use Rattle.wire.specs.Bytes.{pick, num_at}
 use Rattle.wire.proofs.Refuses.{pick_in}
 use Rattle.splitter.proofs.Cases.{length_in, Headed, number_more, headed_more}
-use Rattle.receiver.specs.Receive.{room, judge_of, waiting, took_of}
-use Rattle.receiver.specs.Steps.{shorter}
+use Rattle.receiver.specs.Receive.{Judgement, room, judge_of, waiting, took_of}
 use Rattle.receiver.specs.declared.Outcome.{Outcome}
 use Rattle.receiver.proofs.Judging.{Judged, in_header, in_body, refused, too-big, message, judged, waits_early, waits_in_body, whole_message}
 
@@ -56,23 +56,6 @@ pub took_ended : (k : ℕ) (h xs : List ℕ) → 0 < k → k ≤ length xs → (
     → waiting (judge_of (h ++ take k xs)) ≡ false → took_of h xs ≡ k
 took_ended k h xs p l q e = took_run k h xs p l q ∙ rw e (add-zero k)
 
-pub shorter_le : (a b : ℕ) → (shorter a b ≤ a) × (shorter a b ≤ b)
-shorter_le a b = go (ltb a b) refl
-  where
-    go : (c : Bool) → ltb a b ≡ c → (pick c a b ≤ a) × (pick c a b ≤ b)
-    go true e = let z = ltb-true a b e in (omega arith, omega (arith, z))
-    go false e = let z = ltb-false a b e in (omega (arith, z), omega arith)
-
-pub shorter_left : (a b : ℕ) → a ≤ b → shorter a b ≡ a
-shorter_left a b l = go (ltb a b) refl
-  where
-    go : (c : Bool) → ltb a b ≡ c → pick c a b ≡ a
-    go true e = refl
-    go false e = let z = ltb-false a b e in omega (arith, z, l)
-
-pub shorter_right : (a b : ℕ) → b < a → shorter a b ≡ b
-shorter_right a b l = rw (le-ltb a b (omega (arith, l)))
-
 -- ---- the body: a message that lacks some bytes takes as many, or all that there are
 pub record InBody (h : List ℕ) (missing : ℕ) : Type 0 where
   pub headed : Headed h
@@ -81,10 +64,10 @@ pub record InBody (h : List ℕ) (missing : ℕ) : Type 0 where
   pub lacks : length h + missing ≡ length_in h
   pub some : 0 < missing
 
-pub in_body_of : (h : List ℕ) (m : ℕ) → length h ≤ room → judge_of h ≡ Outcome.Waiting m → 6 ≤ length h → InBody h m
+pub in_body_of : (h : List ℕ) (m : ℕ) → length h ≤ room → judge_of h ≡ Ok (Outcome.Waiting m) → 6 ≤ length h → InBody h m
 in_body_of h m most e six = go (judge_of h) (judged h most) e
   where
-    go : (o : Outcome) → Judged h o → o ≡ Outcome.Waiting m → InBody h m
+    go : (o : Judgement) → Judged h o → o ≡ Ok (Outcome.Waiting m) → InBody h m
     go _ (in_header k l v u) q = absurd (omega (arith, six, l))
     go _ (in_body w l u f) q =
         let z : length_in h - length h ≡ m = cc in
@@ -117,28 +100,23 @@ module _ (h xs : List ℕ) (m : ℕ) (in-it : InBody h m) where
   ended : m ≤ length xs → took_of h xs ≡ m
   ended l = took_ended m h xs in-it.some l (λ j p f. inside j (omega (arith, f, l)) f) (ends l)
 
-  body : took_of h xs ≡ shorter m (length xs)
-  body = go (ltb m (length xs)) refl (eqb (length xs) m) refl
+  body : took_of h xs ≡ min m (length xs)
+  body = go (leb m (length xs)) refl
     where
-      go : (b : Bool) → ltb m (length xs) ≡ b → (c : Bool) → eqb (length xs) m ≡ c → took_of h xs ≡ pick b m (length xs)
-      go true b c e = let z = ltb-true m (length xs) b in ended (omega (arith, z))
-      go false b true e = let z = eqb-true (length xs) m e in ended (omega (arith, z)) ∙ sym z
-      go false b false e =
-          let z = ltb-false m (length xs) b in
-          let y = eqb-false (length xs) m e in
-          took_all h xs (λ j p l. inside j l (omega (arith, l, y, z)))
+      go : (b : Bool) → leb m (length xs) ≡ b → took_of h xs ≡ min m (length xs)
+      go true b = let z = leb-true m (length xs) b in ended z ∙ omega (arith, z)
+      go false b = let z = leb-false m (length xs) b in took_all h xs (λ j p l. inside j l (omega (arith, l, z))) ∙ omega (arith, z)
 
 -- where no byte comes none is taken, also into a header
-pub body_run : (h xs : List ℕ) (m : ℕ) → length h ≤ room → judge_of h ≡ Outcome.Waiting m → (0 < length xs → 6 ≤ length h)
-    → (took_of h xs ≡ shorter m (length xs)) × (length h + shorter m (length xs) ≤ room)
+pub body_run : (h xs : List ℕ) (m : ℕ) → length h ≤ room → judge_of h ≡ Ok (Outcome.Waiting m) → (0 < length xs → 6 ≤ length h)
+    → (took_of h xs ≡ min m (length xs)) × (length h + min m (length xs) ≤ room)
 unfolding took_of
-body_run h [] m most e six = let n = (shorter_le m 0).1 in (omega (arith, n), omega (arith, n, most))
+body_run h [] m most e six = (omega arith, omega (arith, most))
 body_run h (x ∷ xs) m most e six =
     let b = in_body_of h m most e (six (omega arith)) in
-    let n = (shorter_le m (length (x ∷ xs))).0 in
     let u = b.high in
     let l = b.lacks in
-    (body h (x ∷ xs) m b, omega (arith, n, u, l))
+    (body h (x ∷ xs) m b, omega (arith, u, l))
 
 -- ---- the header: its rest
 pub record HeaderRun (h xs : List ℕ) (k : ℕ) : Type 0 where
@@ -174,14 +152,7 @@ goes_on h (x ∷ xs) (suc k) within fits few end three =
         waits_early (h ++ take j (x ∷ xs)) (omega (arith, g, l, fits)) (omega (arith, g, l, fits)) (λ _. three j p (omega (arith, l, within)))
 
 -- up to the sixth byte, or all that there are
-sixth : (n k : ℕ) → n < 6 → (shorter (6 - n) k ≤ k) × ((n + shorter (6 - n) k ≤ 6) × (shorter (6 - n) k < k → n + shorter (6 - n) k ≡ 6))
-sixth n k few = go (ltb (6 - n) k) refl
-  where
-    go : (c : Bool) → ltb (6 - n) k ≡ c → (pick c (6 - n) k ≤ k) × ((n + pick c (6 - n) k ≤ 6) × (pick c (6 - n) k < k → n + pick c (6 - n) k ≡ 6))
-    go true e = let z = ltb-true (6 - n) k e in (omega (arith, z), (omega (arith, few), λ _. omega (arith, few)))
-    go false e = let z = ltb-false (6 - n) k e in (omega arith, (omega (arith, z, few), λ l. absurd (omega (arith, l))))
-
-pub header_run : (h xs : List ℕ) → 0 < length h → length h < 6 → num_at 1 h 0 ≡ 3 → HeaderRun h xs (shorter (6 - length h) (length xs))
+pub header_run : (h xs : List ℕ) → 0 < length h → length h < 6 → num_at 1 h 0 ≡ 3 → HeaderRun h xs (min (6 - length h) (length xs))
 header_run h xs one few three =
-    let s = sixth (length h) (length xs) few in
-    goes_on h xs (shorter (6 - length h) (length xs)) s.0 s.1.0 few s.1.1 (λ j p l. number_more h (take j xs) 1 0 (omega (arith, one)) ∙ three)
+    goes_on h xs (min (6 - length h) (length xs)) (omega arith) (omega (arith, few)) few (λ l. omega (arith, l, few))
+    (λ j p l. number_more h (take j xs) 1 0 (omega (arith, one)) ∙ three)

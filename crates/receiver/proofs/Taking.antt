@@ -2,29 +2,37 @@
 use mathlib.Core.Path.{◌≡◌, refl, sym, ap, ap₂, ◌∙◌, subst}
 use mathlib.Core.Bool.{false}
 use mathlib.Core.List.{List, [], ◌++◌, append_assoc}
-use Prim.Native.Nat.{ℕ, ◌+◌, ◌-◌, ◌≤◌, ◌<◌}
+use Prim.Native.Nat.{ℕ, ◌+◌, ◌-◌, ◌≤◌, ◌<◌, min}
 use native.Mathlib.Omega.{arith}
-use native.Mathlib.Nat.{add-zero, zero-add, sub-zero}
+use native.Mathlib.Nat.{add-zero}
 use lib.ListN.{length, take, drop, length-append, length-drop}
 use lib.Seq.{paste, take-paste, drop-paste, length-paste, length-take-le, take_all, take-length, take-take, take-add, drop-drop, sets-eq}
+use Rattle.std.specs.declared.result.Result.TheVariants.{Ok, Err}
+use Rattle.std.specs.declared.option.Option.TheVariants.{Some, None}
 use Rattle.wire.specs.Bytes.{num_at}
 use Rattle.writing.specs.Write.{put_at}
 use Rattle.writing.proofs.Sets.{put_fits}
-use Rattle.receiver.specs.Receive.{room, longest_piece, judge_of, waiting, took_of, settled_by, settled, taken}
-use Rattle.receiver.specs.Steps.{Held, taken_after, shorter, first_run}
+use Rattle.receiver.specs.Receive.{Judgement, room, longest_piece, judge_of, waiting, took_of, settled_by, settled, taken}
+use Rattle.receiver.specs.Steps.{Held, missing_in, taken_after, first_run}
 use Rattle.receiver.specs.declared.Outcome.{Outcome}
 use Rattle.receiver.specs.declared.Received.{Received}
 use Rattle.receiver.proofs.Judging.{Judged, in_header, in_body, refused, too-big, message, judged}
-use Rattle.receiver.proofs.Runs.{grown, shorter_le, shorter_left, shorter_right, body_run, HeaderRun, header_run}
+use Rattle.receiver.proofs.Runs.{grown, body_run, HeaderRun, header_run}
 use Rattle.receiver.proofs.First.{First, first}
 use Rattle.receiver.proofs.Missing.{fewer_wait}
 
--- ---- what the code learns where an outcome is none that waits
-pub decided : (o : Outcome) → ((m : ℕ) → o ≡ Outcome.Waiting m → ⊥) → waiting o ≡ false
-decided (Outcome.Waiting missing) k = absurd (k missing refl)
-decided (Outcome.Message header v) k = refl
-decided (Outcome.Skipped fields v) k = refl
-decided (Outcome.Refused r) k = refl
+-- ---- what the code learns of an outcome: how many bytes are missing where it waits, and else that it does not
+pub waits_for : (o : Judgement) {m : ℕ} → missing_in o ≡ Some m → o ≡ Ok (Outcome.Waiting m)
+waits_for (Ok (Outcome.Waiting n)) {m} e = let z : n ≡ m = cc in ap {B = Judgement} (λ (k : ℕ). Ok (Outcome.Waiting k)) z
+waits_for (Ok (Outcome.Message header v)) e = let z : ◌≡◌ {A = ℕ} 0 1 = cc in absurd (omega (arith, z))
+waits_for (Ok (Outcome.Skipped fields v)) e = let z : ◌≡◌ {A = ℕ} 0 1 = cc in absurd (omega (arith, z))
+waits_for (Err r) e = let z : ◌≡◌ {A = ℕ} 0 1 = cc in absurd (omega (arith, z))
+
+pub decided : (o : Judgement) → missing_in o ≡ None → waiting o ≡ false
+decided (Ok (Outcome.Waiting n)) e = let z : ◌≡◌ {A = ℕ} 0 1 = cc in absurd (omega (arith, z))
+decided (Ok (Outcome.Message header v)) e = refl
+decided (Ok (Outcome.Skipped fields v)) e = refl
+decided (Err r) e = refl
 
 -- ---- one put: what then stands at the front
 pub record Put (b : List ℕ) (at : ℕ) (run b' : List ℕ) : Type 0 where
@@ -61,7 +69,7 @@ module _ (b : List ℕ) (held : ℕ) (size : length b ≡ room) (xs : List ℕ) 
   then_many = grown (take held b) xs k within ∙ ap (λ (n : ℕ). n + k) (length-take-le held b (omega (arith, size, fits)))
 
   -- what is judged is settled
-  settled-by : (n : ℕ) (o : Outcome) → o ≡ judge_of (take held b ++ take k xs) → settled_by n (held + k) o ≡ settled n (take held b ++ take k xs)
+  settled-by : (n : ℕ) (o : Judgement) → o ≡ judge_of (take held b ++ take k xs) → settled_by n (held + k) o ≡ settled n (take held b ++ take k xs)
   settled-by n o e = ap₂ (settled_by n) (sym then_many) e
 
   -- the first k bytes of the piece, put behind those held
@@ -81,9 +89,9 @@ module _ (b : List ℕ) (size : length b ≡ room) (xs : List ℕ) (short : leng
   piece_fits : length xs ≤ room
   piece_fits = omega (arith, short)
 
-  module _ (o : Outcome) (j : o ≡ judge_of xs) (run : ℕ) (is : run ≡ first_run o (length xs)) where
+  module _ (o : Judgement) (j : o ≡ judge_of xs) (run : ℕ) (is : run ≡ first_run o (length xs)) where
     firsts : First xs run o
-    firsts = subst (λ (k : ℕ). First xs k o) (sym is) (subst (λ (p : Outcome). First xs (first_run p (length xs)) p) (sym j) (first xs piece_fits))
+    firsts = subst (λ (k : ℕ). First xs k o) (sym is) (subst (λ (p : Judgement). First xs (first_run p (length xs)) p) (sym j) (first xs piece_fits))
 
     pub first_within : run ≤ length xs
     first_within = firsts.within
@@ -101,17 +109,17 @@ module _ (b : List ℕ) (held missing : ℕ) (lent : Held b held missing) (xs : 
   held_there : length (take held b) ≡ held
   held_there = length-take-le held b (omega (arith, lent.size, lent.fits))
 
-  taking : (took_of (take held b) xs ≡ shorter missing (length xs)) × (length (take held b) + shorter missing (length xs) ≤ room)
+  taking : (took_of (take held b) xs ≡ min missing (length xs)) × (length (take held b) + min missing (length xs) ≤ room)
   taking = body_run (take held b) xs missing (omega (arith, held_there, lent.fits)) lent.waits (λ p. let six = behind p in omega (arith, six, held_there))
 
-  module _ (run : ℕ) (is : shorter missing (length xs) ≡ run) where
+  module _ (run : ℕ) (is : min missing (length xs) ≡ run) where
     within : run ≤ length xs
-    within = let s = (shorter_le missing (length xs)).1 in omega (arith, s, is)
+    within = omega (arith, is)
 
     body_fits : held + run ≤ room
     body_fits = let f = taking.1 in omega (arith, f, held_there, is)
 
-    body_taken : (before : ℕ) (o : Outcome) (r : Received) (b' : List ℕ) → o ≡ judge_of (take held b ++ take run xs)
+    body_taken : (before : ℕ) (o : Judgement) (r : Received) (b' : List ℕ) → o ≡ judge_of (take held b ++ take run xs)
         → b' ≡ paste b held xs run → r ≡ settled_by (before + run) (held + run) o
         → (r ≡ taken_after before (take held b) xs) × (b' ≡ paste b held xs (r.took - before))
     body_taken before o r b' j e s =
@@ -123,26 +131,26 @@ module _ (b : List ℕ) (held missing : ℕ) (lent : Held b held missing) (xs : 
   -- there are fewer bytes than the message lacks: all are taken, and it waits for the rest of them
   module _ (few : length xs < missing) where
     pub few_fit : held + length xs ≤ room
-    few_fit = body_fits (length xs) (shorter_right missing (length xs) few)
+    few_fit = body_fits (length xs) (omega (arith, few))
 
-    pub still_waits : (before : ℕ) (r : Received) (b' : List ℕ) → b' ≡ put_at b held xs → r ≡ settled_by (before + length xs) (held + length xs) (Outcome.Waiting (missing - length xs))
+    pub still_waits : (before : ℕ) (r : Received) (b' : List ℕ) → b' ≡ put_at b held xs → r ≡ settled_by (before + length xs) (held + length xs) (Ok (Outcome.Waiting (missing - length xs)))
         → (r ≡ taken_after before (take held b) xs) × (b' ≡ paste b held xs (r.took - before))
     still_waits before r b' e s =
         let put = was_put b held xs b' (omega (arith, few_fit, lent.size)) e in
         let many : length (take held b ++ xs) ≤ room = (let n = length-append (take held b) xs in omega (arith, n, held_there, few_fit)) in
         let waits = fewer_wait (take held b) xs missing many lent.waits few in
-        body_taken (length xs) (shorter_right missing (length xs) few) before _ r b' (sym (ap (λ (z : List ℕ). judge_of (take held b ++ z)) (take-length xs) ∙ waits)) put.pasted s
+        body_taken (length xs) (omega (arith, few)) before _ r b' (sym (ap (λ (z : List ℕ). judge_of (take held b ++ z)) (take-length xs) ∙ waits)) put.pasted s
 
   -- there are as many, or more: what it lacks is taken
   module _ (enough : missing ≤ length xs) where
     pub all_fit : held + missing ≤ room
-    all_fit = body_fits missing (shorter_left missing (length xs) enough)
+    all_fit = body_fits missing (omega (arith, enough))
 
-    pub body_ends : (before : ℕ) (o : Outcome) (r : Received) (b' : List ℕ) → o ≡ judge_of (take held b ++ take missing xs)
+    pub body_ends : (before : ℕ) (o : Judgement) (r : Received) (b' : List ℕ) → o ≡ judge_of (take held b ++ take missing xs)
         → b' ≡ paste b held (take missing xs) (length (take missing xs)) → r ≡ settled_by (before + missing) (held + missing) o
         → (r ≡ taken_after before (take held b) xs) × (b' ≡ paste b held xs (r.took - before))
     body_ends before o r b' j e s =
-        body_taken missing (shorter_left missing (length xs) enough) before o r b' j (e ∙ pasted b held lent.size xs missing enough all_fit) s
+        body_taken missing (omega (arith, enough)) before o r b' j (e ∙ pasted b held lent.size xs missing enough all_fit) s
 
 -- ---- the header's rest, and what then waits
 module _ (b : List ℕ) (held missing : ℕ) (lent : Held b held missing) (xs : List ℕ) (one : 0 < held) (few : held < 6) (short : length xs ≤ longest_piece) where
@@ -155,17 +163,17 @@ module _ (b : List ℕ) (held missing : ℕ) (lent : Held b held missing) (xs : 
   three : num_at 1 h 0 ≡ 3
   three = go (judge_of h) (judged h (omega (arith, head_there, lent.fits))) lent.waits
     where
-      go : (o : Outcome) → Judged h o → o ≡ Outcome.Waiting missing → num_at 1 h 0 ≡ 3
+      go : (o : Judgement) → Judged h o → o ≡ Ok (Outcome.Waiting missing) → num_at 1 h 0 ≡ 3
       go _ (in_header m l v u) q = v (omega (arith, head_there, one))
       go _ (in_body w l m f) q = w.three
       go _ (refused r s c p b) q = let z : ◌≡◌ {A = ℕ} 0 1 = cc in absurd (omega (arith, z))
       go _ (too-big w l m) q = w.three
       go _ (message w f) q = w.three
 
-  module _ (run : ℕ) (is : run ≡ shorter (6 - held) (length xs)) where
+  module _ (run : ℕ) (is : run ≡ min (6 - held) (length xs)) where
     goes : HeaderRun h xs run
     goes =
-        subst (HeaderRun h xs) (ap (λ (n : ℕ). shorter (6 - n) (length xs)) head_there ∙ sym is)
+        subst (HeaderRun h xs) (ap (λ (n : ℕ). min (6 - n) (length xs)) head_there ∙ sym is)
         (header_run h xs (omega (arith, head_there, one)) (omega (arith, head_there, few)) three)
 
     pub head_within : run ≤ length xs
@@ -177,7 +185,7 @@ module _ (b : List ℕ) (held missing : ℕ) (lent : Held b held missing) (xs : 
     fits : held + run ≤ room
     fits = omega (arith, head_fits)
 
-    module _ (o : Outcome) (b' : List ℕ) (j : o ≡ judge_of (h ++ take run xs)) (e : b' ≡ paste b held (take run xs) (length (take run xs))) where
+    module _ (o : Judgement) (b' : List ℕ) (j : o ≡ judge_of (h ++ take run xs)) (e : b' ≡ paste b held (take run xs) (length (take run xs))) where
       put : b' ≡ paste b held xs run
       put = e ∙ pasted b held lent.size xs run head_within fits
 
@@ -188,28 +196,13 @@ module _ (b : List ℕ) (held missing : ℕ) (lent : Held b held missing) (xs : 
           let all : r ≡ settled run (h ++ take run xs) = s ∙ settled-by b held lent.size xs run head_within fits run o j in
           (all ∙ ap (λ (k : ℕ). settled k (h ++ take k xs)) (sym took), put ∙ ap (paste b held xs) (sym (ap (λ (x : Received). x.took) all)))
 
-      module _ (m : ℕ) (w : o ≡ Outcome.Waiting m) where
+      module _ (m : ℕ) (w : o ≡ Ok (Outcome.Waiting m)) where
         front : take (held + run) b' ≡ h ++ take run xs
         front = ap (take (held + run)) put ∙ front_then b held lent.size xs run head_within fits
-
-        pub still_held : Held b' (held + run) m
-        still_held =
-            record {
-              size = ap length put ∙ size_then b held lent.size xs run head_within fits;
-              fits = fits;
-              waits = ap judge_of front ∙ sym j ∙ w;
-            }
 
         -- the rest of the piece, as the code takes it
         rest_is : take (length xs - run) (drop run xs) ≡ drop run xs
         rest_is = let d = length-drop run xs in take_all (length xs - run) (drop run xs) (omega (arith, d))
-
-        pub head_behind : (0 < length (take (length xs - run) (drop run xs)) → 6 ≤ held + run) × (run + length (take (length xs - run) (drop run xs)) ≤ longest_piece)
-        head_behind =
-            let d = ap length rest_is ∙ length-drop run xs in (
-              λ p. let f = goes.behind (ap waiting (sym j ∙ w)) (omega (arith, p, d, length-drop run xs)) in omega (arith, f, head_there),
-              omega (arith, d, head_within, short),
-            )
 
         -- the body has gone on from there
         went_on : (r : Received) (b'' : List ℕ) → r ≡ taken_after run (take (held + run) b') (drop run xs)
@@ -230,9 +223,3 @@ module _ (b : List ℕ) (held missing : ℕ) (lent : Held b held missing) (xs : 
         pub head_on : (r : Received) (b'' : List ℕ) → r ≡ taken_after run (take (held + run) b') (take (length xs - run) (drop run xs))
             → b'' ≡ paste b' (held + run) (take (length xs - run) (drop run xs)) (r.took - run) → (r ≡ taken h xs) × (b'' ≡ paste b held xs r.took)
         head_on r b'' t f = went_on r b'' (t ∙ ap (taken_after run (take (held + run) b')) rest_is) (f ∙ ap (λ (z : List ℕ). paste b' (held + run) z (r.took - run)) rest_is)
-
--- ---- where nothing was taken before
-pub from_the_start : (b h xs : List ℕ) (held : ℕ) (r : Received) (b' : List ℕ) → (r ≡ taken_after 0 h xs) × (b' ≡ paste b held xs (r.took - 0))
-    → (r ≡ taken h xs) × (b' ≡ paste b held xs r.took)
-from_the_start b h xs held r b' e =
-    (e.0 ∙ ap (λ (k : ℕ). settled k (h ++ take (took_of h xs) xs)) (zero-add (took_of h xs)), e.1 ∙ ap (paste b held xs) (sub-zero r.took))

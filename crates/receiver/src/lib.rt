@@ -4,10 +4,10 @@
 ghost use Rattle.std.specs.Prelude.{◌≡◌, [], ◌++◌, ◌+◌, ◌-◌, ◌≤◌, ◌<◌, length, take};
 ghost use Rattle.std.proofs.Math.Seq.{paste};
 ghost use Rattle.receiver.specs.Receive.{room, longest_piece, judge_of, holding, fresh, state_of, settled_by, taken, refused, receive_of, buffer_of};
-ghost use Rattle.receiver.specs.Steps.{Held, Enters, by_room, taken_after, shorter, first_run, refused_run};
+ghost use Rattle.receiver.specs.Steps.{Held, Enters, by_room, missing_in, taken_after, first_run, refused_run};
 
 use common_header::{BmpCommonHeader, COMMON_HEADER, CommonFields};
-use splitter::SplitAnswer;
+use splitter::Split;
 use wire::{Refusal, View};
 
 // The size of the buffer that is lent, and so the longest message that is handed out.
@@ -16,36 +16,29 @@ pub const BUFFER: usize = 65_536;
 // The longest piece that a call takes.
 pub const LONGEST_PIECE: usize = 4_096;
 
-// What the bytes since the last boundary are: the start of a message, which lacks so many bytes at least; a whole message, handed out or
-// skipped as the splitter does, with its view of the buffer; or why they are none.
+// What the bytes since the last boundary are: the start of a message, which lacks so many bytes at least; or a whole message, handed out or
+// skipped as the splitter does, with its view of the buffer.
 #[derive(Clone, Copy)]
 pub enum Outcome {
     Waiting(usize),
     Message(BmpCommonHeader, View),
     Skipped(CommonFields, View),
-    Refused(Refusal),
 }
 
-// How many bytes at the start of the buffer are held, and the refusal that stands, whose number is 0 where none does.
+// How many bytes at the start of the buffer are held, and the refusal that stands, where one does.
 #[derive(Clone, Copy)]
 pub struct Receiver {
     pub held: usize,
-    pub standing: Refusal,
+    pub standing: Option<Refusal>,
 }
 
-// How many bytes of the piece were taken, what came of it, and the state for the next call.
+// How many bytes of the piece were taken, what the bytes since the last boundary then are or why the call is refused, and the state for
+// the next call.
 #[derive(Clone, Copy)]
 pub struct Received {
     pub took: usize,
-    pub outcome: Outcome,
+    pub outcome: Result<Outcome, Refusal>,
     pub state: Receiver,
-}
-
-// What the bytes lack that are held, or why the call is refused at once.
-#[derive(Clone, Copy)]
-enum Entered {
-    Waiting(usize),
-    Refused(Refusal),
 }
 
 // The state in which a session begins, and begins again after a refusal: nothing is held, and nothing stands.
@@ -62,33 +55,31 @@ pub fn receive(buffer: &mut [u8], state: Receiver, piece: &[u8]) -> Received
     ensures buffer_after { buffer.new ≡ buffer_of buffer.old state piece.now }
 {
     match enter(buffer, state, piece) {
-        Entered::Waiting(missing) => take_in(buffer, state.held, missing, piece),
-        Entered::Refused(refusal) => refused(state, refusal),
+        Ok(missing) => take_in(buffer, state.held, missing, piece),
+        Err(refusal) => refused(state, refusal),
     }
 }
 
-// The checks before anything is taken. They stand apart so that their answers and those of a call that takes bytes do not meet in memory.
-fn enter(buffer: &[u8], state: Receiver, piece: &[u8]) -> Entered
+// The checks before anything is taken: what the bytes lack that are held, or why the call is refused at once. They stand apart so that their
+// answers and those of a call that takes bytes do not meet in memory.
+#[tactic(auto, unfolding(crate::specs::Receive::receive_of))]
+fn enter(buffer: &[u8], state: Receiver, piece: &[u8]) -> Result<usize, Refusal>
     ensures { Enters buffer.now state piece.now result }
 {
     let held = state.held;
-    let standing = state.standing;
     if buffer.len() != BUFFER {
-        return Entered::Refused(wire::refusal_at(wire::NO_ROOM, 0));
+        return Err(wire::refusal_at(wire::NO_ROOM, 0));
     }
     if LONGEST_PIECE < piece.len() {
-        return Entered::Refused(wire::refusal_at(wire::TOO_LONG, 0));
+        return Err(wire::refusal_at(wire::TOO_LONG, 0));
     }
-    if standing.number != wire::GOOD {
-        return Entered::Refused(standing);
+    if let Some(standing) = state.standing {
+        return Err(standing);
     }
     if buffer.len() < held {
-        return Entered::Refused(wire::refusal_at(wire::BAD_FIELD, 0));
+        return Err(wire::refusal_at(wire::BAD_FIELD, 0));
     }
-    let Outcome::Waiting(missing) = judge(&buffer[..held]) else {
-        return Entered::Refused(wire::refusal_at(wire::BAD_FIELD, 0));
-    };
-    Entered::Waiting(missing)
+    missing_in(judge(&buffer[..held])).ok_or(wire::refusal_at(wire::BAD_FIELD, 0))
 }
 
 // A call that takes nothing and leaves the state as it was.
@@ -97,35 +88,46 @@ fn refused(state: Receiver, refusal: Refusal) -> Received
 {
     Received {
         took: 0,
-        outcome: Outcome::Refused(refusal),
-        state: state,
+        outcome: Err(refusal),
+        state,
     }
 }
 
 // ---- the bytes since the last boundary
 // The splitter says what they are.
-fn judge(h: &[u8]) -> Outcome
+#[tactic(auto, unfolding(crate::specs::Receive::judge_of))]
+fn judge(h: &[u8]) -> Result<Outcome, Refusal>
     requires { length h.now ≤ room }
     ensures { result ≡ judge_of h.now }
 {
     match splitter::split_message(h) {
-        SplitAnswer::Message(header, message) => Outcome::Message(header, message),
-        SplitAnswer::Skipped(fields, message) => Outcome::Skipped(fields, message),
-        SplitAnswer::Refused(refusal) => judge_refusal(refusal, BUFFER - h.len()),
+        Ok(Split::Message(header, message)) => Ok(Outcome::Message(header, message)),
+        Ok(Split::Skipped(fields, message)) => Ok(Outcome::Skipped(fields, message)),
+        Err(refusal) => judge_refusal(refusal, BUFFER - h.len()),
     }
 }
 
 // What is Cut is the start of a message, unless more is missing than the buffer has room for.
-fn judge_refusal(refusal: Refusal, room: usize) -> Outcome
+fn judge_refusal(refusal: Refusal, room: usize) -> Result<Outcome, Refusal>
     ensures { result ≡ by_room refusal room }
 {
     if refusal.number != wire::CUT {
-        return Outcome::Refused(refusal);
+        return Err(refusal);
     }
     if room < refusal.missing {
-        return Outcome::Refused(wire::refusal_at(wire::STREAM_TOO_BIG, 1));
+        return Err(wire::refusal_at(wire::STREAM_TOO_BIG, 1));
     }
-    Outcome::Waiting(refusal.missing)
+    Ok(Outcome::Waiting(refusal.missing))
+}
+
+// How many bytes those lack that wait for more.
+fn missing_in(outcome: Result<Outcome, Refusal>) -> Option<usize>
+    ensures { result ≡ missing_in outcome }
+{
+    match outcome {
+        Ok(Outcome::Waiting(missing)) => Some(missing),
+        _ => None,
+    }
 }
 
 // So many bytes are held, and no refusal stands.
@@ -133,21 +135,20 @@ fn holding(held: usize) -> Receiver
     ensures { result ≡ holding held }
 {
     Receiver {
-        held: held,
-        standing: wire::refusal_at(wire::GOOD, 0),
+        held,
+        standing: None,
     }
 }
 
-fn state_of(held: usize, outcome: Outcome) -> Receiver
+fn state_of(held: usize, outcome: Result<Outcome, Refusal>) -> Receiver
     ensures { result ≡ state_of held outcome }
 {
     match outcome {
-        Outcome::Waiting(_) => holding(held),
-        Outcome::Message(_, _) => holding(0),
-        Outcome::Skipped(_, _) => holding(0),
-        Outcome::Refused(refusal) => Receiver {
-            held: held,
-            standing: refusal,
+        Ok(Outcome::Waiting(_)) => holding(held),
+        Ok(Outcome::Message(_, _) | Outcome::Skipped(_, _)) => holding(0),
+        Err(refusal) => Receiver {
+            held,
+            standing: Some(refusal),
         },
     }
 }
@@ -181,14 +182,13 @@ fn take_first(buffer: &mut [u8], piece: &[u8]) -> Received
 }
 
 // All that waits, or a message, or what brings a refusal: a first byte that is no version, else the six of a header.
-fn first_run(outcome: Outcome, there: usize) -> usize
+fn first_run(outcome: Result<Outcome, Refusal>, there: usize) -> usize
     ensures { result ≡ first_run outcome there }
 {
     match outcome {
-        Outcome::Waiting(_) => there,
-        Outcome::Message(_, message) => message.length,
-        Outcome::Skipped(_, message) => message.length,
-        Outcome::Refused(refusal) => refused_run(refusal.number),
+        Ok(Outcome::Waiting(_)) => there,
+        Ok(Outcome::Message(_, message) | Outcome::Skipped(_, message)) => message.length,
+        Err(refusal) => refused_run(refusal.number),
     }
 }
 
@@ -209,9 +209,9 @@ fn take_header(buffer: &mut [u8], held: usize, missing: usize, piece: &[u8]) -> 
     ensures value { result ≡ taken (take held buffer.old) piece.now }
     ensures buffer_after { buffer.new ≡ paste buffer.old held piece.now result.took }
 {
-    let run = shorter(COMMON_HEADER - held, piece.len());
+    let run = (COMMON_HEADER - held).min(piece.len());
     let outcome = put_run(buffer, held, &piece[..run]);
-    let Outcome::Waiting(missing_now) = outcome else {
+    let Some(missing_now) = missing_in(outcome) else {
         return settle(run, held + run, outcome);
     };
     take_body(buffer, held + run, missing_now, &piece[run..], run)
@@ -230,7 +230,7 @@ fn take_body(buffer: &mut [u8], held: usize, missing: usize, rest: &[u8], before
         return settle(
             before + there,
             held + there,
-            Outcome::Waiting(missing - there),
+            Ok(Outcome::Waiting(missing - there)),
         );
     }
     let outcome = put_run(buffer, held, &rest[..missing]);
@@ -238,7 +238,8 @@ fn take_body(buffer: &mut [u8], held: usize, missing: usize, rest: &[u8], before
 }
 
 // One copy, and one judgement of what is then held.
-fn put_run(buffer: &mut [u8], held: usize, run: &[u8]) -> Outcome
+#[tactic(auto, using(crate::proofs::Taking::was_put))]
+fn put_run(buffer: &mut [u8], held: usize, run: &[u8]) -> Result<Outcome, Refusal>
     requires { (length buffer.old ≡ room) × (held + length run.now ≤ room) }
     ensures value { result ≡ judge_of (take held buffer.old ++ run.now) }
     ensures buffer_after { buffer.new ≡ paste buffer.old held run.now (length run.now) }
@@ -247,18 +248,12 @@ fn put_run(buffer: &mut [u8], held: usize, run: &[u8]) -> Outcome
     judge(&buffer[..held + run.len()])
 }
 
-fn settle(took: usize, held: usize, outcome: Outcome) -> Received
+fn settle(took: usize, held: usize, outcome: Result<Outcome, Refusal>) -> Received
     ensures { result ≡ settled_by took held outcome }
 {
     Received {
-        took: took,
-        outcome: outcome,
+        took,
+        outcome,
         state: state_of(held, outcome),
     }
-}
-
-fn shorter(a: usize, b: usize) -> usize
-    ensures { result ≡ shorter a b }
-{
-    if a < b { a } else { b }
 }

@@ -9,6 +9,7 @@ use borrow.Author.Tests.{ltb-true, ltb-false, eq-eqb, ne_eqb, lt-ltb, le-ltb}
 use lib.Dec.{ltb}
 use lib.ListN.{length, take, drop, length-append, length-take, take-append-drop}
 use lib.Seq.{take_all, take-append-le, take-append-add, take-length, length-take-le}
+use Rattle.std.specs.declared.result.Result.TheVariants.{Ok, Err}
 use Rattle.wire.specs.Number as Number
 use Rattle.wire.specs.Refusal.{lacking}
 use Rattle.wire.specs.View.{view, viewed}
@@ -19,16 +20,16 @@ use Rattle.common_header.specs.declared.CommonFields.{CommonFields}
 use Rattle.splitter.specs.Shown as Shown
 use Rattle.splitter.specs.Read.{judged, split_of}
 use Rattle.splitter.specs.Stream.{Message, known, skipped, length_of, bytes_of, as_step}
-use Rattle.splitter.specs.declared.SplitAnswer.{SplitAnswer}
 use Rattle.splitter.proofs.Laws.{below_6, above_limit, bad_length, part, whole, hands_out}
 use Rattle.splitter.proofs.Cases.{length_in, fields_in, Headed, Case, early, other_version, headed, split_case, split_headed, number_more, fields_more, headed_more}
 use Rattle.splitter.proofs.Promises.{stays}
 use Rattle.splitter.proofs.Stream.{split_as, Stands}
-use Rattle.receiver.specs.Receive.{room, too_big, outcome_of, judge_of, waiting}
+use Rattle.receiver.specs.Receive.{Judgement, room, too_big, outcome_of, judge_of, waiting}
 use Rattle.receiver.specs.declared.Outcome.{Outcome}
 use Rattle.receiver.proofs.Judging.{Said, said_message, said_skipped, said_cut, said_big, said_refused, said}
 use Rattle.receiver.proofs.Runs.{in_body_of}
 use Rattle.session.specs.Session.{or_waits, step}
+use Rattle.splitter.specs.Shown.{SplitAnswer}
 
 -- ---- what is judged of the first bytes of a stream, the splitter says of the next 65,536
 module _ (h t : List ℕ) (most : length h ≤ room) where
@@ -54,7 +55,7 @@ module _ (h t : List ℕ) (most : length h ≤ room) where
   stays_near a e uncut =
       stays h near (omega (arith, window_most)) (subst (λ (x : SplitAnswer). (Shown.refusal_of x).number ≡ Number.Cut → ⊥) (sym e) uncut) ∙ e
 
-  pub step_refused : (r : Refusal) → split_of h ≡ SplitAnswer.Refused r → (r.number ≡ Number.Cut → ⊥) → step (h ++ t) ≡ bad r
+  pub step_refused : (r : Refusal) → split_of h ≡ Err r → (r.number ≡ Number.Cut → ⊥) → step (h ++ t) ≡ bad r
   step_refused r e uncut = step_by _ (stays_near _ e uncut) ∙ rw (ne_eqb r.number Number.Cut uncut)
 
   -- of a message that h is the whole of
@@ -76,7 +77,7 @@ module _ (h t : List ℕ) (most : length h ≤ room) where
   module _ (w : Headed h) (big : room < length_in h) (limited : length_in h ≤ Number.limit) where
     pub step_too_big : step (h ++ t) ≡ stop
     step_too_big =
-        let cut : split_of (h ++ near) ≡ SplitAnswer.Refused (lacking 6 (length_in h - length (h ++ near))) =
+        let cut : split_of (h ++ near) ≡ Err (lacking 6 (length_in h - length (h ++ near))) =
         split_headed (h ++ near) (omega (arith, window_most)) (headed_more h near w) ∙ ap (judged (length (h ++ near))) (fields_more h near w)
         ∙ rw (le-ltb (length_in h) 6 (omega (arith, big)), le-ltb Number.limit (length_in h) limited, lt-ltb (length (h ++ near)) (length_in h) (omega (arith, big, window_most))) in
         step_by _ cut
@@ -95,7 +96,7 @@ step_waits h most w = go (split_of h) (outcome_of h (split_of h)) (said h (split
     at : (a : SplitAnswer) → split_of h ≡ a → step h ≡ or_waits (as_step h a)
     at a e = ap (λ (x : List ℕ). or_waits (as_step x (split_of x))) (take_all room h most) ∙ ap (λ (x : SplitAnswer). or_waits (as_step h x)) e
 
-    go : (a : SplitAnswer) (o : Outcome) → Said h a o → split_of h ≡ a → waiting o ≡ true → (step h ≡ stop) × (too_big h ≡ false)
+    go : (a : SplitAnswer) (o : Judgement) → Said h a o → split_of h ≡ a → waiting o ≡ true → (step h ≡ stop) × (too_big h ≡ false)
     go _ _ (said_message header v) e w = absurd (true≢false (sym w))
     go _ _ (said_skipped fields v) e w = absurd (true≢false (sym w))
     go _ _ (said_cut r c b) e w = (at _ e ∙ rw (eq-eqb r.number Number.Cut c), b)
@@ -115,7 +116,7 @@ length_as (skipped fields bytes) = refl
 length_split : (h : List ℕ) → length h ≤ room → (m : Message) → split_of h ≡ split_as m → length_of m ≡ length_in h
 length_split h most m e = go (split_of h) (split_case h (omega (arith, most))) e
   where
-    no : {A : Type 0} (r : Refusal) → 0 < r.number → SplitAnswer.Refused r ≡ split_as m → A
+    no : {A : Type 0} (r : Refusal) → 0 < r.number → Err r ≡ split_as m → A
     no r p q = let z = ap (λ (x : SplitAnswer). (Shown.refusal_of x).number) q ∙ good_as m in absurd (omega (arith, z, p))
 
     go : (a : SplitAnswer) → Case h a → a ≡ split_as m → length_of m ≡ length_in h
@@ -128,11 +129,11 @@ length_split h most m e = go (split_of h) (split_case h (omega (arith, most))) e
         sym (length_as m) ∙ ap (λ (x : SplitAnswer). (Shown.fields_in x).msg_len) (sym q)
         ∙ ap (λ (x : CommonFields). x.msg_len) (hands_out (fields_in h) (view 0 (length_in h))).fields_are
 
-pub waiting_lacks : (o : Outcome) → waiting o ≡ true → (missing : ℕ) × (o ≡ Outcome.Waiting missing)
-waiting_lacks (Outcome.Waiting missing) w = (missing, refl)
-waiting_lacks (Outcome.Message header v) w = absurd (true≢false (sym w))
-waiting_lacks (Outcome.Skipped fields v) w = absurd (true≢false (sym w))
-waiting_lacks (Outcome.Refused r) w = absurd (true≢false (sym w))
+pub waiting_lacks : (o : Judgement) → waiting o ≡ true → (missing : ℕ) × (o ≡ Ok (Outcome.Waiting missing))
+waiting_lacks (Ok (Outcome.Waiting missing)) w = (missing, refl)
+waiting_lacks (Ok (Outcome.Message header v)) w = absurd (true≢false (sym w))
+waiting_lacks (Ok (Outcome.Skipped fields v)) w = absurd (true≢false (sym w))
+waiting_lacks (Err r) w = absurd (true≢false (sym w))
 
 pub message_whole : (h : List ℕ) → length h ≤ room → ((j : ℕ) → j < length h → waiting (judge_of (take j h)) ≡ true) → (m : Message) → Stands h m → length_of m ≡ length h
 message_whole h most before m x = go (ltb (length_of m) (length h)) refl

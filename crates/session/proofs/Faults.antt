@@ -9,37 +9,39 @@ use borrow.Author.Tests.{ltb-true, ltb-false, lt-ltb, le-ltb}
 use lib.Dec.{ltb, eqb}
 use lib.ListN.{length, take, drop, length-take, take-append-drop}
 use lib.Seq.{take-length}
+use Rattle.std.specs.declared.result.Result.TheVariants.{Ok, Err}
+use Rattle.std.specs.declared.option.Option.TheVariants.{Some, None}
 use Rattle.wire.specs.Number as Number
 use Rattle.wire.specs.Bytes.{pick, num_at}
-use Rattle.wire.specs.Refusal.{refusal, no_refusal}
+use Rattle.wire.specs.Refusal.{refusal}
 use Rattle.wire.specs.View.{view}
 use Rattle.wire.specs.Walk.{stop, bad, End, tail, fault}
 use Rattle.wire.specs.declared.Refusal.{Refusal}
 use Rattle.wire.proofs.Refuses.{numbers_below}
 use Rattle.wire.proofs.Walk.{BadIn, FaultsIn, faults_in, walk_fault}
-use Rattle.splitter.specs.Shown.{refusal_of}
+use Rattle.splitter.specs.Shown.{SplitAnswer, refusal_of}
 use Rattle.splitter.specs.Read.{split_of, reader}
 use Rattle.splitter.specs.Stream.{Message, as_step}
-use Rattle.splitter.specs.declared.SplitAnswer.{SplitAnswer}
 use Rattle.splitter.proofs.Laws.{below_6, above_limit, bad_length, part, whole, handed_either}
 use Rattle.splitter.proofs.Cases.{length_in, fields_in, Case, early, other_version, headed, split_case, number_more}
 use Rattle.splitter.proofs.Promises as Splitter
-use Rattle.receiver.specs.Receive.{room, too_big, stream_too_big, SaysTooBig, outcome_of, judge_of, waiting, took_of}
+use Rattle.receiver.specs.Receive.{Judgement, room, too_big, stream_too_big, SaysTooBig, outcome_of, judge_of, waiting, took_of}
 use Rattle.receiver.specs.Steps.{refused_run, first_run}
-use Rattle.receiver.specs.declared.Outcome.{Outcome}
 use Rattle.receiver.proofs.Judging.{Judged, in_header, in_body, refused, too-big, message, by_version, by-header, judged}
 use Rattle.receiver.proofs.First.{first}
 use Rattle.receiver.proofs.Runs.{took_ended}
+use Rattle.session.proofs.Since.{not_both}
 use Rattle.session.proofs.Walked.{some_held}
 use Rattle.session.specs.Session.{or_waits, step, kit, split, standing_at, Brings, wrong_version, length_below_6, length_above_limit, length_above_buffer}
+use Rattle.splitter.specs.declared.Split.{Split}
 
 -- ---- the first bytes that bring a refusal: one of them, or the six of a header
-module _ (h : List ℕ) (most : length h ≤ room) (r : Refusal) (j : judge_of h ≡ Outcome.Refused r) (before : (i : ℕ) → i < length h → waiting (judge_of (take i h)) ≡ true) where
+module _ (h : List ℕ) (most : length h ≤ room) (r : Refusal) (j : judge_of h ≡ Err r) (before : (i : ℕ) → i < length h → waiting (judge_of (take i h)) ≡ true) where
   many : length h ≡ refused_run r.number
   many =
       let all : took_of [] h ≡ length h =
       took_ended (length h) [] h (some_held h r j) (omega arith) (λ i p l. before i l) (ap (λ (z : List ℕ). waiting (judge_of z)) (take-length h) ∙ ap waiting j) in
-      sym all ∙ (first h most).took ∙ ap (λ (o : Outcome). first_run o (length h)) j
+      sym all ∙ (first h most).took ∙ ap (λ (o : Judgement). first_run o (length h)) j
 
   is : (d : Refusal) → d ≡ r → Brings d (refused_run d.number) → Brings r (length h)
   is d e b = subst (Brings r) (sym many) (subst (λ (x : Refusal). Brings x (refused_run x.number)) e b)
@@ -50,41 +52,40 @@ module _ (h : List ℕ) (most : length h ≤ room) (r : Refusal) (j : judge_of h
       apart : ◌≡◌ {A = ℕ} 0 1 → Brings r (length h)
       apart z = absurd (omega (arith, z))
 
-      go : (o : Outcome) → Judged h o → o ≡ Outcome.Refused r → Brings r (length h)
+      go : (o : Judgement) → Judged h o → o ≡ Err r → Brings r (length h)
       go _ (in_header m l v u) q = apart cc
       go _ (in_body w l u f) q = apart cc
       go _ (refused d s c p (by_version one v e)) q = let z : d ≡ r = cc in is (refusal Number.BadVersion 0) (sym e ∙ z) wrong_version
       go _ (refused d s c p (by-header w below_6 k)) q = let z : refusal Number.BadMessageLength 1 ≡ r = cc in is _ z length_below_6
       go _ (refused d s c p (by-header w above_limit k)) q = let z : refusal Number.TooLong 1 ≡ r = cc in is _ z length_above_limit
       go _ (too-big w l u) q = let z : stream_too_big ≡ r = cc in is _ z length_above_buffer
-      go _ (message w f) q = handed_either (λ a. outcome_of h a ≡ Outcome.Refused r → Brings r (length h)) (fields_in h) (view 0 (length_in h)) (λ x. apart cc) (λ x. apart cc) q
+      go _ (message w f) q = handed_either (λ a. outcome_of h a ≡ Err r → Brings r (length h)) (fields_in h) (view 0 (length_in h)) (λ x. apart cc) (λ x. apart cc) q
 
 -- ---- the splitter's numbers are below 11
 faults : FaultsIn kit (λ n. n < 11)
 faults = faults_in kit (λ n. n < 11) (λ s. at (take room s) (split_of (take room s)) refl)
   where
     at : (s : List ℕ) (a : SplitAnswer) → split_of s ≡ a → BadIn (λ n. n < 11) (or_waits (as_step s a))
-    at s (SplitAnswer.Message header v) e = tt
-    at s (SplitAnswer.Skipped fields v) e = tt
-    at s (SplitAnswer.Refused r) e = go (eqb r.number Number.Cut)
+    at s (Ok (Split.Message header v)) e = tt
+    at s (Ok (Split.Skipped fields v)) e = tt
+    at s (Err r) e = go (eqb r.number Number.Cut)
       where
         go : (b : Bool) → BadIn {A = Message} (λ n. n < 11) (pick b stop (bad r))
         go true = tt
         go false = subst (λ (x : SplitAnswer). (refusal_of x).number < 11) e (numbers_below reader Splitter.refuses 11 refl s)
 
 -- so StreamTooBig stands where a header that waits says so, and nowhere else
-pub too_big_waits : (s : List ℕ) (e : End) → (split s).end ≡ e → standing_at e ≡ stream_too_big → (z : List ℕ) × ((split s).end ≡ tail z) × (too_big z ≡ true)
+pub too_big_waits : (s : List ℕ) (e : End) → (split s).end ≡ e → standing_at e ≡ Some stream_too_big → (z : List ℕ) × ((split s).end ≡ tail z) × (too_big z ≡ true)
 too_big_waits s (tail z) q h = go (too_big z) refl h
   where
-    go : (b : Bool) → too_big z ≡ b → standing_at (tail z) ≡ stream_too_big → (y : List ℕ) × ((split s).end ≡ tail y) × (too_big y ≡ true)
+    go : (b : Bool) → too_big z ≡ b → standing_at (tail z) ≡ Some stream_too_big → (y : List ℕ) × ((split s).end ≡ tail y) × (too_big y ≡ true)
     go true b h = (z, q, b)
     go false b h =
-        let none : no_refusal ≡ standing_at (tail z) = rw b in
-        let n : Number.Good ≡ Number.StreamTooBig = ap (λ (r : Refusal). r.number) (none ∙ h) in
-        absurd (omega (arith, n))
+        let none : standing_at (tail z) ≡ None = rw b in not_both none h
 too_big_waits s (fault r) q h =
     let below = walk_fault kit (λ n. n < 11) faults (length s) s r q in
-    let n = ap (λ (x : Refusal). x.number) h in
+    let is : r ≡ stream_too_big = cc in
+    let n = ap (λ (x : Refusal). x.number) is in
     absurd (omega (arith, below, n))
 
 -- ---- what the bytes say there

@@ -6,6 +6,7 @@ use Prim.Native.Nat.{ℕ, zero, suc, ◌≤◌, ◌<◌}
 use native.Mathlib.Omega.{arith}
 use lib.Dec.{eqb}
 use lib.ListN.{length, take, drop, length-drop}
+use Rattle.std.specs.declared.result.Result.TheVariants.{Ok, Err}
 use Rattle.wire.specs.Number as Number
 use Rattle.wire.specs.Bytes.{pick}
 use Rattle.wire.specs.View.{viewed}
@@ -13,12 +14,13 @@ use Rattle.wire.specs.Walk.{Step, stop, bad, item, tail, Walked, next, walk}
 use Rattle.wire.proofs.Walk.{walk_stop}
 use Rattle.splitter.specs.Read.{split_of}
 use Rattle.splitter.specs.Stream.{Message, known, skipped, length_of, as_step}
-use Rattle.splitter.specs.declared.SplitAnswer.{SplitAnswer}
 use Rattle.splitter.proofs.Stream.{Stands, known_stands, skipped_stands}
 use Rattle.receiver.specs.Receive.{room}
 use Rattle.receiver.proofs.Judging.{waits_early}
 use Rattle.session.specs.Session.{or_waits, step, kit, split}
 use Rattle.session.proofs.Boundary.{step_waits}
+use Rattle.splitter.specs.declared.Split.{Split}
+use Rattle.splitter.specs.Shown.{SplitAnswer}
 
 step_none : step [] ≡ stop
 step_none = (step_waits [] (omega arith) (waits_early [] (omega arith) (omega arith) (λ one. absurd (omega (arith, one))))).0
@@ -33,9 +35,9 @@ takes s m e = at (split_of (take room s)) refl e
     is k x q = let low = x.fits.least in subst (λ (y : Message). 0 < length_of y) q (omega (arith, low))
 
     at : (a : SplitAnswer) → split_of w ≡ a → or_waits (as_step w a) ≡ item m → 0 < length_of m
-    at (SplitAnswer.Message header v) a q = let z : known header (viewed w v) ≡ m = cc in is _ (known_stands w v header a) z
-    at (SplitAnswer.Skipped fields v) a q = let z : skipped fields (viewed w v) ≡ m = cc in is _ (skipped_stands w v fields a) z
-    at (SplitAnswer.Refused r) a q = go (eqb r.number Number.Cut) q
+    at (Ok (Split.Message header v)) a q = let z : known header (viewed w v) ≡ m = cc in is _ (known_stands w v header a) z
+    at (Ok (Split.Skipped fields v)) a q = let z : skipped fields (viewed w v) ≡ m = cc in is _ (skipped_stands w v fields a) z
+    at (Err r) a q = go (eqb r.number Number.Cut) q
       where
         go : (b : Bool) → pick b stop (bad r) ≡ item m → 0 < length_of m
         go true q = let z : ◌≡◌ {A = ℕ} 0 1 = cc in absurd (omega (arith, z))

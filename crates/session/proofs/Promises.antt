@@ -6,14 +6,14 @@ use mathlib.Core.Logic.{◌↔◌}
 use Prim.Native.Nat.{ℕ, ◌≤◌, ◌<◌}
 use native.Mathlib.Omega.{arith}
 use lib.ListN.{length, take, drop}
-use Rattle.wire.specs.Number as Number
+use Rattle.std.specs.declared.option.Option.TheVariants.{Some, None}
 use Rattle.wire.specs.Walk.{tail, next}
 use Rattle.wire.specs.declared.Refusal.{Refusal}
 use Rattle.splitter.specs.Stream.{length_of, joined}
 use Rattle.receiver.specs.Receive.{room, longest_piece, stream_too_big, SaysTooBig, judge_of, waiting}
 use Rattle.session.specs.Session.{Session, begun, took, held_bytes, step, split, standing_at, Called, Pieces, Puts, Brings, Follows}
 use Rattle.session.proofs.Taken.{took_waits, took_ends}
-use Rattle.session.proofs.Since.{Now, waits, refuses, Since, began, called_since, held_waits}
+use Rattle.session.proofs.Since.{Now, waits, refuses, not_both, Since, began, called_since, held_waits}
 use Rattle.session.proofs.Walked.{follows}
 use Rattle.session.proofs.Fuel.{split_step, split_waits}
 use Rattle.session.proofs.Cuts.{Leads, puts_lead, leads_follows, took_is, pieces_end, same_messages, same_held, same_state}
@@ -33,7 +33,7 @@ pub pieces_put : (b : List ℕ) → length b ≡ room → (ps : List (List ℕ))
 pieces_put b size ps g = pieces_end ps g (begun b) [] (began b size)
 
 -- Where no refusal stands, every byte has been taken: the messages and the bytes held are the stream.
-pub all_taken : (b : List ℕ) → length b ≡ room → {ps : List (List ℕ)} {c : Session} → Puts (begun b) ps c → c.state.standing.number ≡ Number.Good
+pub all_taken : (b : List ℕ) → length b ≡ room → {ps : List (List ℕ)} {c : Session} → Puts (begun b) ps c → c.state.standing ≡ None
     → joined c.messages (held_bytes c) ≡ flatten ps
 all_taken b size p free =
     let x = leads b size p in
@@ -67,17 +67,18 @@ module _ (b : List ℕ) (size : length b ≡ room) {c : Session} {s : List ℕ} 
   held_since = let x = called_since size calls in (sym x.parts, x.many)
 
   -- What stands is one of four refusals, and the bytes held are those that have brought it: a wrong version with the first, a length with the sixth.
-  pub which_stands : (c.state.standing.number ≡ Number.Good → ⊥) → Brings c.state.standing c.state.held
-  which_stands n = let x = called_since size calls in go x x.now
+  pub which_stands : (r : Refusal) → c.state.standing ≡ Some r → Brings r c.state.held
+  which_stands r e = let x = called_since size calls in go x x.now
     where
-      go : Since c s → Now (held_bytes c) c.state.standing → Brings c.state.standing c.state.held
-      go x (waits z w) = absurd (n (ap (λ (r : Refusal). r.number) z))
-      go x (refuses j p) =
-          subst (Brings c.state.standing) x.many (brings (held_bytes c) (omega (arith, x.many, x.fits)) c.state.standing j x.before)
+      go : Since c s → Now (held_bytes c) c.state.standing → Brings r c.state.held
+      go x (waits z w) = not_both z e
+      go x (refuses q z j) =
+          let same : q ≡ r = cc in
+          subst (λ (d : Refusal). Brings d c.state.held) same (subst (Brings q) x.many (brings (held_bytes c) (omega (arith, x.many, x.fits)) q j x.before))
 
   -- A call takes bytes as long as those since the last boundary wait for more: the byte that brings a message or a refusal is the last one taken, and bytes are left
   -- only behind such a byte.
-  pub last_byte : (xs : List ℕ) → length xs ≤ longest_piece → c.state.standing.number ≡ Number.Good
+  pub last_byte : (xs : List ℕ) → length xs ≤ longest_piece → c.state.standing ≡ None
       → ((j : ℕ) → j < took c xs → waiting (judge_of (held_bytes c ++ take j xs)) ≡ true)
       × (took c xs < length xs → waiting (judge_of (held_bytes c ++ take (took c xs) xs)) ≡ false)
   last_byte xs short free =
@@ -86,7 +87,7 @@ module _ (b : List ℕ) (size : length b ≡ room) {c : Session} {s : List ℕ} 
       rw (took_is c s xs x short free w) (took_waits (held_bytes c) xs w, took_ends (held_bytes c) xs)
 
 -- ---- StreamTooBig stands exactly where the header at a boundary says so: the splitter waits there, and the length is from 65,537 to 1,048,576.
-pub fifteen : (c : Session) (s : List ℕ) → Follows c s → (c.state.standing ≡ stream_too_big) ↔ ((z : List ℕ) × ((split s).end ≡ tail z) × SaysTooBig z)
+pub fifteen : (c : Session) (s : List ℕ) → Follows c s → (c.state.standing ≡ Some stream_too_big) ↔ ((z : List ℕ) × ((split s).end ≡ tail z) × SaysTooBig z)
 fifteen c s f = (
   λ e. let z = too_big_waits s (split s).end refl (sym f.standing_is ∙ e) in (z.0, z.1, says_so z.0 (split_waits s z.0 z.1) z.2),
   λ z. f.standing_is ∙ ap standing_at z.1 ∙ rw (said_big z.0 z.2),

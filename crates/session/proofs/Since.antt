@@ -8,23 +8,20 @@ use borrow.Author.Tests.{ltb-true, ltb-false}
 use lib.Dec.{ltb}
 use lib.ListN.{length, take}
 use lib.Seq.{paste, paste-zero, take-length, take-take}
-use Rattle.wire.specs.Number as Number
-use Rattle.wire.specs.Refusal.{no_refusal}
+use Rattle.std.specs.declared.result.Result.TheVariants.{Err}
+use Rattle.std.specs.declared.option.Option.{Option}
+use Rattle.std.specs.declared.option.Option.TheVariants.{Some, None}
 use Rattle.wire.specs.Rfc.{Each}
 use Rattle.wire.specs.View.{view, viewed}
 use Rattle.wire.specs.declared.Refusal.{Refusal}
 use Rattle.wire.specs.declared.View.{View}
 use Rattle.wire.proofs.Rfc.{join_parts}
 use Rattle.wire.proofs.Views.{viewed_inside}
-use Rattle.splitter.specs.Shown.{message_of}
+use Rattle.splitter.specs.Shown.{SplitAnswer, message_of}
 use Rattle.splitter.specs.Read.{split_of}
 use Rattle.splitter.specs.Stream.{Message, known, skipped, length_of, bytes_of, joined}
-use Rattle.splitter.specs.declared.SplitAnswer.{SplitAnswer}
-use Rattle.splitter.proofs.Laws.{handed_either}
-use Rattle.splitter.proofs.Cases.{length_in, fields_in}
 use Rattle.splitter.proofs.Stream.{split_as, Stands, known_stands, skipped_stands}
-use Rattle.receiver.specs.Receive.{room, longest_piece, outcome_of, judge_of, waiting, took_of, state_of, taken, refused, receive_of}
-use Rattle.receiver.specs.declared.Outcome.{Outcome}
+use Rattle.receiver.specs.Receive.{Judgement, room, longest_piece, outcome_of, judge_of, waiting, took_of, state_of, taken, refused, receive_of}
 use Rattle.receiver.specs.declared.Received.{Received}
 use Rattle.receiver.proofs.Judging as Judging
 use Rattle.receiver.proofs.Judging.{Said, said_message, said_skipped, said_cut, said_big, said_refused, said}
@@ -52,9 +49,12 @@ pub record Whole (m : Message) : Type 0 where
   pub some : 0 < length_of m
 
 -- ---- the bytes since the last boundary wait, or have brought the refusal that stands
-pub data Now (h : List ℕ) (r : Refusal) : Type 0 where
-  waits : r ≡ no_refusal → waiting (judge_of h) ≡ true → Now h r
-  refuses : judge_of h ≡ Outcome.Refused r → 0 < r.number → Now h r
+pub data Now (h : List ℕ) (standing : Option Refusal) : Type 0 where
+  waits : standing ≡ None → waiting (judge_of h) ≡ true → Now h standing
+  refuses : (r : Refusal) → standing ≡ Some r → judge_of h ≡ Err r → Now h standing
+
+pub not_both : {A : Type 0} {standing : Option Refusal} {r : Refusal} → standing ≡ None → standing ≡ Some r → A
+not_both {A} {standing} {r} n s = let z : ◌≡◌ {A = ℕ} 0 1 = cc in absurd (omega (arith, z))
 
 pub record Since (c : Session) (s : List ℕ) : Type 0 where
   pub size : length c.buffer ≡ room
@@ -76,20 +76,6 @@ began b size =
       before = λ j l. absurd (omega (arith, l));
       now = waits refl (Judging.waits_early [] (omega arith) (omega arith) (λ one. absurd (omega (arith, one))));
     }
-
--- a refusal has a number
-refused_number : (h : List ℕ) → length h ≤ room → (r : Refusal) → judge_of h ≡ Outcome.Refused r → 0 < r.number
-refused_number h most r e = go (judge_of h) (Judging.judged h most) e
-  where
-    apart : ◌≡◌ {A = ℕ} 0 1 → 0 < r.number
-    apart z = absurd (omega (arith, z))
-
-    go : (o : Outcome) → Judging.Judged h o → o ≡ Outcome.Refused r → 0 < r.number
-    go _ (Judging.in_header m l v u) q = apart cc
-    go _ (Judging.in_body w l u f) q = apart cc
-    go _ (Judging.refused d s c p b) q = let z : d ≡ r = cc in subst (λ (x : Refusal). 0 < x.number) z p
-    go _ (Judging.too-big w l u) q = let z : Number.StreamTooBig ≡ r.number = cc in omega (arith, z)
-    go _ (Judging.message w f) q = handed_either (λ a. outcome_of h a ≡ Outcome.Refused r → 0 < r.number) (fields_in h) (view 0 (length_in h)) (λ x. apart cc) (λ x. apart cc) q
 
 -- ---- one call
 abbrev answered : Session → List ℕ → Received → Session
@@ -152,11 +138,11 @@ module _ (c : Session) (s xs : List ℕ) (x : Since c s) (w : waiting (judge_of 
   parts' : s ++ take n xs ≡ joined c.messages h'
   parts' = ap (λ (z : List ℕ). z ++ take n xs) x.parts ∙ joined_more c.messages h (take n xs)
 
-  abbrev Lands : Outcome → Type 0
+  abbrev Lands : Judgement → Type 0
   Lands o = Since (answered c xs (record { took = n; outcome = o; state = state_of (length h') o })) (s ++ take n xs)
 
   -- all of it is held
-  held_on : (l : List Message) → l ≡ c.messages → (r : Refusal) → Now h' r
+  held_on : (l : List Message) → l ≡ c.messages → (r : Option Refusal) → Now h' r
       → Since (record { buffer = b'; state = record { held = length h'; standing = r }; messages = l }) (s ++ take n xs)
   held_on l e r now =
       record {
@@ -202,7 +188,7 @@ module _ (c : Session) (s xs : List ℕ) (x : Since c s) (w : waiting (judge_of 
       let f : take k b' ≡ take k h' = sym (take-take k (length h') b' l) ∙ ap (take k) front' in
       ap (viewed b') e ∙ a ∙ f ∙ sym b ∙ ap (viewed h') (sym e)
 
-  lands : (a : SplitAnswer) (o : Outcome) → Said h' a o → split_of h' ≡ a → judge_of h' ≡ o → Lands o
+  lands : (a : SplitAnswer) (o : Judgement) → Said h' a o → split_of h' ≡ a → judge_of h' ≡ o → Lands o
   lands _ _ (said_message header v) e j =
       let z = known_stands h' v header e in
       let same = shown v header.msg_len (ap message_of (sym e ∙ z.split_so)) z.fits.all_there in
@@ -211,9 +197,9 @@ module _ (c : Session) (s xs : List ℕ) (x : Since c s) (w : waiting (judge_of 
       let z = skipped_stands h' v fields e in
       let same = shown v fields.msg_len (ap message_of (sym e ∙ z.split_so)) z.fits.all_there in
       handed_on (skipped fields (viewed h' v)) z _ (ap (λ (k : List ℕ). c.messages ++ (skipped fields k ∷ [])) same)
-  lands _ _ (said_cut r d b) e j = held_on _ (append-nil c.messages) no_refusal (waits refl (ap waiting j))
-  lands _ _ (said_big r d b) e j = held_on _ (append-nil c.messages) _ (refuses j (omega arith))
-  lands _ _ (said_refused r d) e j = held_on _ (append-nil c.messages) r (refuses j (refused_number h' most' r j))
+  lands _ _ (said_cut r d b) e j = held_on _ (append-nil c.messages) None (waits refl (ap waiting j))
+  lands _ _ (said_big r d b) e j = held_on _ (append-nil c.messages) (Some _) (refuses _ refl j)
+  lands _ _ (said_refused r d) e j = held_on _ (append-nil c.messages) (Some r) (refuses r refl j)
 
   takes_since : receive_of c.buffer c.state xs ≡ taken h xs → Since (call c xs) (s ++ take (took c xs) xs)
   unfolding judge_of
@@ -228,18 +214,18 @@ call_since c s x xs = go (ltb longest_piece (length xs)) refl x.now
     go true b n = leaves_since c s xs x _ (too_long c.buffer c.state xs x.size (ltb-true longest_piece (length xs) b))
     go false b (waits z w) =
         takes_since c s xs x w
-        (goes_on c.buffer c.state xs x.size (ltb-false longest_piece (length xs) b) (ap (λ (r : Refusal). r.number) z) (omega (arith, x.size, x.fits)) w)
-    go false b (refuses j p) =
-        leaves_since c s xs x _ (stands c.buffer c.state xs x.size (ltb-false longest_piece (length xs) b) (λ z. absurd (omega (arith, z, p))))
+        (goes_on c.buffer c.state xs x.size (ltb-false longest_piece (length xs) b) z (omega (arith, x.size, x.fits)) w)
+    go false b (refuses r z j) =
+        leaves_since c s xs x _ (stands c.buffer c.state xs x.size (ltb-false longest_piece (length xs) b) r z)
 
 pub called_since : {b : List ℕ} {c : Session} {s : List ℕ} → length b ≡ room → Called b c s → Since c s
 called_since size not_yet = began _ size
 called_since size (once_more {c} {s} k xs) = call_since c s (called_since size k) xs
 
 -- where no refusal stands, the bytes held wait
-pub held_waits : (c : Session) (s : List ℕ) → Since c s → c.state.standing.number ≡ Number.Good → waiting (judge_of (held_bytes c)) ≡ true
+pub held_waits : (c : Session) (s : List ℕ) → Since c s → c.state.standing ≡ None → waiting (judge_of (held_bytes c)) ≡ true
 held_waits c s x free = go x.now
   where
     go : Now (held_bytes c) c.state.standing → waiting (judge_of (held_bytes c)) ≡ true
     go (waits z w) = w
-    go (refuses j p) = absurd (omega (arith, free, p))
+    go (refuses r z j) = not_both free z

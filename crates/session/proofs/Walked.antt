@@ -6,8 +6,9 @@ use Prim.Native.Nat.{ℕ, zero, suc, ◌≤◌, ◌<◌}
 use native.Mathlib.Omega.{arith}
 use lib.ListN.{length, length-append}
 use lib.Seq.{drop_at}
-use Rattle.wire.specs.Number as Number
-use Rattle.wire.specs.Refusal.{no_refusal}
+use Rattle.std.specs.declared.result.Result.TheVariants.{Err}
+use Rattle.std.specs.declared.option.Option.{Option}
+use Rattle.std.specs.declared.option.Option.TheVariants.{Some, None}
 use Rattle.wire.specs.Rfc.{Each}
 use Rattle.wire.specs.View.{view}
 use Rattle.wire.specs.Walk.{stop, bad, End, tail, fault, Walked, walk}
@@ -16,8 +17,7 @@ use Rattle.wire.proofs.Walk.{walk_stop}
 use Rattle.splitter.specs.Stream.{Message, length_of, bytes_of, joined}
 use Rattle.splitter.proofs.Laws.{handed_either}
 use Rattle.splitter.proofs.Cases.{length_in, fields_in}
-use Rattle.receiver.specs.Receive.{room, stream_too_big, outcome_of, judge_of, waiting}
-use Rattle.receiver.specs.declared.Outcome.{Outcome}
+use Rattle.receiver.specs.Receive.{Judgement, room, stream_too_big, outcome_of, judge_of, waiting}
 use Rattle.receiver.proofs.Judging as Judging
 use Rattle.session.specs.Session.{Session, held_bytes, step, kit, split, standing_at, Follows}
 use Rattle.session.proofs.Boundary.{step_refused, step_message, step_too_big, says_too_big, step_waits}
@@ -53,50 +53,50 @@ finds_messages (m ∷ l) z e w k (suc f) n =
     rw (step_message (bytes_of m) rest x.most m x.split_so many refl, drop_at (bytes_of m) rest (length_of m) (sym many), finds_messages l z e w.1 k f (omega (arith, n, long, some, many)))
 
 -- ---- how it ends, where the bytes h are held, and the rest of the stream has not been taken
-pub record Ends (z : List ℕ) (r : Refusal) : Type 0 where
+pub record Ends (z : List ℕ) (standing : Option Refusal) : Type 0 where
   pub end : End
   pub finds : Finds [] end z
-  pub stands : standing_at end ≡ r
+  pub stands : standing_at end ≡ standing
 
-ends_waiting : (h : List ℕ) → length h ≤ room → waiting (judge_of h) ≡ true → Ends h no_refusal
+ends_waiting : (h : List ℕ) → length h ≤ room → waiting (judge_of h) ≡ true → Ends h None
 ends_waiting h most w =
     let s = step_waits h most w in
     record { end = tail h; finds = stops_at h s.0; stands = rw s.1 }
 
 -- what holds nothing waits
-pub some_held : (h : List ℕ) (r : Refusal) → judge_of h ≡ Outcome.Refused r → 0 < length h
+pub some_held : (h : List ℕ) (r : Refusal) → judge_of h ≡ Err r → 0 < length h
 some_held [] r j = absurd (true≢false (sym (Judging.waits_early [] (omega arith) (omega arith) (λ one. absurd (omega (arith, one)))) ∙ ap waiting j))
 some_held (b ∷ h) r j = omega arith
 
 module _ (h rest : List ℕ) (most : length h ≤ room) (r : Refusal) where
-  ends_refused : judge_of h ≡ Outcome.Refused r → Ends (h ++ rest) r
+  ends_refused : judge_of h ≡ Err r → Ends (h ++ rest) (Some r)
   ends_refused j = go (judge_of h) (Judging.judged h most) j
     where
-      apart : ◌≡◌ {A = ℕ} 0 1 → Ends (h ++ rest) r
+      apart : ◌≡◌ {A = ℕ} 0 1 → Ends (h ++ rest) (Some r)
       apart z = absurd (omega (arith, z))
 
-      go : (o : Outcome) → Judging.Judged h o → o ≡ Outcome.Refused r → Ends (h ++ rest) r
+      go : (o : Judgement) → Judging.Judged h o → o ≡ Err r → Ends (h ++ rest) (Some r)
       go _ (Judging.in_header m l v u) q = apart cc
       go _ (Judging.in_body w l u f) q = apart cc
       go _ (Judging.refused d s c p b) q =
           let same : d ≡ r = cc in
           let long = length-append h rest in
-          record { end = fault d; finds = faults_at (h ++ rest) d (step_refused h rest most d s c) (omega (arith, some_held h r j, long)); stands = same }
+          record { end = fault d; finds = faults_at (h ++ rest) d (step_refused h rest most d s c) (omega (arith, some_held h r j, long)); stands = ap {B = Option Refusal} Some same }
       go _ (Judging.too-big w l u) q =
           let same : stream_too_big ≡ r = cc in
-          record { end = tail (h ++ rest); finds = stops_at (h ++ rest) (step_too_big h rest most w l u); stands = rw (says_too_big h rest most w l u) same }
-      go _ (Judging.message w f) q = handed_either (λ a. outcome_of h a ≡ Outcome.Refused r → Ends (h ++ rest) r) (fields_in h) (view 0 (length_in h)) (λ x. apart cc) (λ x. apart cc) q
+          record { end = tail (h ++ rest); finds = stops_at (h ++ rest) (step_too_big h rest most w l u); stands = rw (says_too_big h rest most w l u) (ap {B = Option Refusal} Some same) }
+      go _ (Judging.message w f) q = handed_either (λ a. outcome_of h a ≡ Err r → Ends (h ++ rest) (Some r)) (fields_in h) (view 0 (length_in h)) (λ x. apart cc) (λ x. apart cc) q
 
 -- ---- a session that has taken s shows what the splitter finds in s, and in all of the stream where a refusal stands
-module _ (c : Session) (s : List ℕ) (x : Since c s) (rest : List ℕ) (left : c.state.standing.number ≡ Number.Good → rest ≡ []) where
+module _ (c : Session) (s : List ℕ) (x : Since c s) (rest : List ℕ) (left : c.state.standing ≡ None → rest ≡ []) where
   most : length (held_bytes c) ≤ room
   most = omega (arith, x.many, x.fits)
 
   ends : Now (held_bytes c) c.state.standing → Ends (held_bytes c ++ rest) c.state.standing
   ends (waits z w) =
-      let none : held_bytes c ++ rest ≡ held_bytes c = ap (λ (t : List ℕ). held_bytes c ++ t) (left (ap (λ (r : Refusal). r.number) z)) ∙ append-nil (held_bytes c) in
+      let none : held_bytes c ++ rest ≡ held_bytes c = ap (λ (t : List ℕ). held_bytes c ++ t) (left z) ∙ append-nil (held_bytes c) in
       subst (λ (t : List ℕ). Ends t c.state.standing) (sym none) (subst (Ends (held_bytes c)) (sym z) (ends_waiting (held_bytes c) most w))
-  ends (refuses j p) = ends_refused (held_bytes c) rest most c.state.standing j
+  ends (refuses r z j) = subst (Ends (held_bytes c ++ rest)) (sym z) (ends_refused (held_bytes c) rest most r j)
 
   pub follows : Follows c (s ++ rest)
   follows =

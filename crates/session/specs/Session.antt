@@ -1,15 +1,15 @@
 -- A session: the bytes of a stream come in pieces, and a caller puts each piece to the receiver, again from where the call stopped.
-use Rattle.std.specs.Prelude.{ℕ, ◌≤◌, ◌≡◌, List, [], ◌∷◌, ◌++◌, eqb, length, take, drop}
+use Rattle.std.specs.Prelude.{ℕ, ◌≤◌, ◌≡◌, List, [], ◌∷◌, ◌++◌, eqb, length, take, drop, Option, Some, None, Ok, Err}
 use Rattle.wire.specs.Number as Number
 use Rattle.wire.specs.Bytes.{pick}
-use Rattle.wire.specs.Refusal.{refusal, no_refusal}
+use Rattle.wire.specs.Refusal.{refusal}
 use Rattle.wire.specs.Rfc.{Each}
 use Rattle.wire.specs.View.{viewed}
 use Rattle.wire.specs.Walk.{Step, stop, bad, item, End, tail, fault, Walked, Kit, walk}
 use Rattle.wire.specs.declared.Refusal.{Refusal}
 use Rattle.splitter.specs.Read.{split_of}
 use Rattle.splitter.specs.Stream.{Message, known, skipped, as_step, messages_by}
-use Rattle.receiver.specs.Receive.{room, longest_piece, too_big, stream_too_big, fresh, receive_of, buffer_of}
+use Rattle.receiver.specs.Receive.{Judgement, room, longest_piece, too_big, stream_too_big, fresh, receive_of, buffer_of}
 use Rattle.receiver.specs.declared.Outcome.{Outcome}
 use Rattle.receiver.specs.declared.Receiver.{Receiver}
 
@@ -32,9 +32,9 @@ abbrev pub split : List ℕ → Walked Message
 split s = walk kit (length s) s
 
 -- the refusal that then stands: the splitter's, or StreamTooBig where the header that waits says too much
-abbrev pub standing_at : End → Refusal
-standing_at (tail z) = pick (too_big z) stream_too_big no_refusal
-standing_at (fault r) = r
+abbrev pub standing_at : End → Option Refusal
+standing_at (tail z) = pick (too_big z) (Some stream_too_big) None
+standing_at (fault r) = Some r
 
 -- ---- the caller
 -- what it has: the buffer that it lends, the receiver's state, and the messages that were handed out
@@ -48,11 +48,11 @@ abbrev pub begun : List ℕ → Session
 begun b = record { buffer = b; state = fresh; messages = [] }
 
 -- what a call hands out: the bytes that its view shows of the buffer
-abbrev pub handed : List ℕ → Outcome → List Message
-handed b (Outcome.Waiting missing) = []
-handed b (Outcome.Message header v) = known header (viewed b v) ∷ []
-handed b (Outcome.Skipped fields v) = skipped fields (viewed b v) ∷ []
-handed b (Outcome.Refused r) = []
+abbrev pub handed : List ℕ → Judgement → List Message
+handed b (Ok (Outcome.Waiting missing)) = []
+handed b (Ok (Outcome.Message header v)) = known header (viewed b v) ∷ []
+handed b (Ok (Outcome.Skipped fields v)) = skipped fields (viewed b v) ∷ []
+handed b (Err r) = []
 
 -- one call; the buffer is the one that the calls before have left
 abbrev pub call : Session → List ℕ → Session
@@ -87,7 +87,7 @@ pub data Puts : Session → List (List ℕ) → Session → Type 0 where
   all_put : {c : Session} → Puts c [] c
   used_up : {c d : Session} {ps : List (List ℕ)} → Puts c ps d → Puts c ([] ∷ ps) d
   put_again : {c d : Session} {p : List ℕ} {ps : List (List ℕ)} → Puts (call c p) (drop (took c p) p ∷ ps) d → Puts c (p ∷ ps) d
-  passes_over : {c d : Session} {p : List ℕ} {ps : List (List ℕ)} → (c.state.standing.number ≡ Number.Good → ⊥) → Puts c ps d → Puts c (p ∷ ps) d
+  passes_over : {c d : Session} {p : List ℕ} {ps : List (List ℕ)} {r : Refusal} → c.state.standing ≡ Some r → Puts c ps d → Puts c (p ∷ ps) d
 
 -- ---- the refusals that stand, each with how many bytes have brought it: the first, or all six of a header
 pub data Brings : Refusal → ℕ → Type 0 where

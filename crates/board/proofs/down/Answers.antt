@@ -1,8 +1,11 @@
-use Rattle.board.proofs.Answers.{down_done, down_refused}
+use mathlib.Core.Path.{◌≡◌}
+use borrow.Author.Rules.{rules}
+use Rattle.std.specs.declared.result.Result.TheVariants.{Err}
+use Rattle.board.specs.Map.{down}
+use Rattle.board.proofs.Kept.{kept}
 use Rattle.board.proofs.down.Goals as goal
 
-pub returns-then-number-eq-GOOD : goal.returns-then-number-eq-GOOD
-returns-then-number-eq-GOOD c = down_done _ _ _ c.key_of.ensures _ _ c.find_key-at.ensures c.number_at-number.ensures c.if-number-eq-GOOD.true _ c.free_place-place.ensures _ c.silent_peer-none.ensures
-
-pub returns-else-number-eq-GOOD : goal.returns-else-number-eq-GOOD
-returns-else-number-eq-GOOD c = down_refused _ _ _ c.key_of.ensures _ _ c.find_key-at.ensures c.number_at-number.ensures c.if-number-eq-GOOD.false
+pub returns-in_err-remove : goal.returns-in_err-remove
+returns-in_err-remove c =
+    let e : c.from_residual.result ≡ Err c.in_err-remove.field-0.0 = search rules in
+    rw e (kept c.args.board c.remove.new.self (down c.args.header c.args.notification) (rw c.in_err-remove.was at c.remove.ensures))

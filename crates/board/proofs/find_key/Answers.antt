@@ -1,21 +1,13 @@
-use mathlib.Core.Path.{◌≡◌, sym, ◌∙◌}
-use native.Mathlib.Omega.{arith}
+use mathlib.Core.Path.{◌∙◌}
 use borrow.Author.Rules.{rules}
-use lib.ListN.{length}
-use Rattle.board.proofs.Firsts.{found, passed, ended}
+use Rattle.std.proofs.Common.{tests}
+use Rattle.std.proofs.lemmas.Iterator.{YieldsList-from_slice}
+use Rattle.std.proofs.lemmas.Iterator.Search.{position_from_yields_List}
+use Rattle.board.specs.Board.{hits}
+use Rattle.board.proofs.Firsts.{first_position}
 use Rattle.board.proofs.find_key.Goals as goal
 
-pub returns-then-is_of : goal.returns-then-is_of
-returns-then-is_of c =
-    let l : length c.args.places ≡ 64 = search rules in
-    found _ _ _ _ (omega arith) c.loop-i.invariant.1 (sym c.is_of.ensures ∙ c.if-is_of.true)
-
-pub loop-i-preserved : goal.loop-i-preserved
-loop-i-preserved c =
-    let l : length c.args.places ≡ 64 = search rules in
-    (omega arith, passed _ _ _ _ (omega arith) c.loop-i.invariant.1 (sym c.is_of.ensures ∙ c.if-is_of.false))
-
-pub returns : goal.returns
-returns c =
-    let l : length c.args.places ≡ 64 = search rules in
-    ended _ _ _ (omega arith) c.loop-i.invariant.1
+pub returns-clause-value : goal.returns-clause-value
+returns-clause-value c =
+    position_from_yields_List (hits c.args.key) _ _ _ c.position.ensures.ran (YieldsList-from_slice c.args.places.now cc) (λ x b q k. search (rules, tests))
+    ∙ first_position (hits c.args.key) c.args.places.now (search rules)

@@ -1,8 +1,11 @@
-use Rattle.board.proofs.Answers.{report_done, report_refused}
+use mathlib.Core.Path.{◌≡◌}
+use borrow.Author.Rules.{rules}
+use Rattle.std.specs.declared.result.Result.TheVariants.{Err}
+use Rattle.board.specs.Map.{report}
+use Rattle.board.proofs.Kept.{kept}
 use Rattle.board.proofs.report.Goals as goal
 
-pub returns-then-number-eq-GOOD : goal.returns-then-number-eq-GOOD
-returns-then-number-eq-GOOD c = report_done _ _ _ c.key_of.ensures _ _ c.find_key-at.ensures c.args.counters c.report_number-number.ensures c.if-number-eq-GOOD.true _ c.reported_peer-peer.ensures
-
-pub returns-else-number-eq-GOOD : goal.returns-else-number-eq-GOOD
-returns-else-number-eq-GOOD c = report_refused _ _ _ c.key_of.ensures _ _ c.find_key-at.ensures c.args.counters c.report_number-number.ensures c.if-number-eq-GOOD.false
+pub returns-in_err-keep : goal.returns-in_err-keep
+returns-in_err-keep c =
+    let e : c.from_residual.result ≡ Err c.in_err-keep.field-0.0 = search rules in
+    rw e (kept c.args.board c.keep.new.self (report c.args.header c.args.counters) (rw c.in_err-keep.was at c.keep.ensures))

@@ -1,8 +1,11 @@
-use Rattle.board.proofs.Answers.{up_done, up_refused}
+use mathlib.Core.Path.{◌≡◌}
+use borrow.Author.Rules.{rules}
+use Rattle.std.specs.declared.result.Result.TheVariants.{Err}
+use Rattle.board.specs.Map.{up}
+use Rattle.board.proofs.Kept.{kept}
 use Rattle.board.proofs.up.Goals as goal
 
-pub returns-then-number-eq-GOOD : goal.returns-then-number-eq-GOOD
-returns-then-number-eq-GOOD c = up_done _ _ _ c.key_of-key.ensures _ _ c.place_for-at.ensures c.number_at-number.ensures c.if-number-eq-GOOD.true _ c.silent_peer-fresh.ensures
-
-pub returns-else-number-eq-GOOD : goal.returns-else-number-eq-GOOD
-returns-else-number-eq-GOOD c = up_refused _ _ _ c.key_of-key.ensures _ _ c.place_for-at.ensures c.number_at-number.ensures c.if-number-eq-GOOD.false
+pub returns-in_err-enter : goal.returns-in_err-enter
+returns-in_err-enter c =
+    let e : c.from_residual.result ≡ Err c.in_err-enter.field-0.0 = search rules in
+    rw e (kept c.args.board c.enter.new.self (up c.args.header c.args.notification) (rw c.in_err-enter.was at c.enter.ensures))

@@ -11,7 +11,7 @@ use Rattle.listing.proofs.put_text.Goals as goal
 
 pub put_refusal-requires : goal.put_refusal-requires
 put_refusal-requires c =
-    let stream-bytes : Bytes c.args.s.now = slice_bytes c.args.s.now (λ i. omega (arith, c.shared_slice_known-1.given i)) in
+    let stream-bytes : Bytes c.args.s.now = slice_bytes c.args.s.now (λ i. omega (arith, c.type_inv.s i)) in
     asks_behind c.args.s.now (refused_line 0 Number.TooLong ++ end_line 0) (text_too_long c.args.s.now c.if-s-gt-LONGEST.true) stream-bytes
 
 pub returns-then-s-gt-LONGEST-clause-value : goal.returns-then-s-gt-LONGEST-clause-value
@@ -28,7 +28,7 @@ returns-then-s-gt-LONGEST-clause-puts c =
 
 pub put_lines-requires-clause-s_bound : goal.put_lines-requires-clause-s_bound
 put_lines-requires-clause-s_bound c =
-    let stream-bytes : Bytes c.args.s.now = slice_bytes c.args.s.now (λ i. omega (arith, c.shared_slice_known-1.given i)) in
+    let stream-bytes : Bytes c.args.s.now = slice_bytes c.args.s.now (λ i. omega (arith, c.type_inv.s i)) in
     let a = c.args in
     asks_behind a.s.now (lines_from (length a.s.now) 0 a.s.now) (text_listed a.s.now c.if-s-gt-LONGEST.false) stream-bytes
 
