@@ -1,17 +1,16 @@
 // Keeps one board, and answers each line of standard input with a line: a call, a lookup, or the peers that are on it (docs/REPLAY.md, "Boards").
 #![tactic(auto)]
 
-use board::{Board, Looked, Peer, Place, Updated};
+use board::{Board, BoardRefusal};
 use kept_report::{KeptCounter, KeptData, KeptReport};
 use models::Afi;
-use peer_down_notification::PeerDownAnswer;
-use per_peer_record::BmpPerPeerHeader;
+use numbers::WireNumber;
+use peer_key::PeerKey;
 use std::io;
 use std::io::Read;
-use trial_forms::Shown;
-use trial_hex::Unhexed;
-use trial_input::Input;
-use wire::{Refusal, View};
+use trial_forms::{Form, Shown};
+use trial_line::BadLine;
+use wire::Refusal;
 
 // `report ` and a text of 131,072 characters.
 const LONGEST_LINE: usize = 131_079;
@@ -25,37 +24,15 @@ const LONGEST_ANSWER: usize = 8_192;
 // What stands behind a header starts here.
 const BODY_AT: usize = 42;
 
-#[derive(Clone, Copy)]
-enum Verb {
-    Clear,
-    List,
-    Up,
-    Down,
-    Report,
-    Show,
-    Unknown,
-}
-
-// What a line asks for: nothing, a verb that stands alone, or one with how many bytes its text writes.
+// What a line asks for; a call and a lookup with how many bytes the line's text writes.
 #[derive(Clone, Copy)]
 enum Asked {
-    Nothing,
-    Bad,
-    Alone(Verb),
-    With(Verb, usize),
-}
-
-#[derive(Clone, Copy)]
-struct Line {
-    input: Input,
-    asked: Asked,
-}
-
-// What a call was answered, and the board after it.
-#[derive(Clone, Copy)]
-struct Answered {
-    shown: Shown,
-    board: Board,
+    Clear,
+    List,
+    Up(usize),
+    Down(usize),
+    Report(usize),
+    Show(usize),
 }
 
 fn main(rt: HostRuntime) -> io::Result<()> {
@@ -85,10 +62,9 @@ fn answer_lines(
     let mut input = trial_input::no_input();
     let mut board = board::empty();
     for _ in 0..trial_input::NO_END {
-        let read = read_line(reader, input, piece, line, bytes)?;
-        input = read.input;
-        let asked = read.asked;
-        board = answer(rt, board, asked, bytes, out)?;
+        input = trial_input::read_line(reader, input, piece, line)?;
+        let asked = ask(trial_input::front(line, input.line_length), bytes);
+        answer(rt, &mut board, asked, bytes, out)?;
         if input.ended {
             return Ok(());
         }
@@ -97,124 +73,71 @@ fn answer_lines(
 }
 
 // ---- a line, taken apart
-fn read_line(
-    reader: &mut impl Read,
-    before: Input,
-    piece: &mut [u8],
-    line: &mut [u8],
-    bytes: &mut [u8],
-) -> io::Result<Line> {
-    let input = trial_input::read_line(reader, before, piece, line)?;
-    let length = input.line_length;
-    Ok(Line {
-        input: input,
-        asked: ask(trial_input::front(line, length), bytes),
-    })
-}
-
-// A verb, and behind one space the text of its bytes.
-fn ask(text: &[u8], bytes: &mut [u8]) -> Asked {
-    if text.len() == 0 {
-        return Asked::Nothing;
+// A verb alone, or a verb and behind one space the text of its bytes. An empty line asks for nothing.
+fn ask(text: &[u8], bytes: &mut [u8]) -> Result<Option<Asked>, BadLine> {
+    if text.is_empty() {
+        return Ok(None);
     }
     let space = trial_hex::place_of(text, b' ');
     if text.len() <= space {
-        return alone(verb_of(text));
+        return alone(text).map(Some);
     }
-    let verb = verb_of(&text[0..space]);
-    let Unhexed::Bytes(count) = trial_hex::unhex(&text[space + 1..], bytes) else {
-        return Asked::Bad;
-    };
-    with_bytes(verb, count)
+    let count = trial_hex::unhex(&text[space + 1..], bytes).ok_or(BadLine)?;
+    with_bytes(&text[..space], count).map(Some)
 }
 
-fn verb_of(text: &[u8]) -> Verb {
+fn alone(verb: &[u8]) -> Result<Asked, BadLine> {
     let words = b"clear         \
-        list          \
-        up            \
+        list          ";
+    match trial_line::place_among(words, verb) {
+        0 => Ok(Asked::Clear),
+        1 => Ok(Asked::List),
+        _ => Err(BadLine),
+    }
+}
+
+fn with_bytes(verb: &[u8], count: usize) -> Result<Asked, BadLine> {
+    let words = b"up            \
         down          \
         report        \
         show          ";
-    match trial_line::place_among(words, text) {
-        0 => Verb::Clear,
-        1 => Verb::List,
-        2 => Verb::Up,
-        3 => Verb::Down,
-        4 => Verb::Report,
-        5 => Verb::Show,
-        _ => Verb::Unknown,
-    }
-}
-
-fn alone(verb: Verb) -> Asked {
-    match verb {
-        Verb::Clear => Asked::Alone(verb),
-        Verb::List => Asked::Alone(verb),
-        _ => Asked::Bad,
-    }
-}
-
-fn with_bytes(verb: Verb, count: usize) -> Asked {
-    match verb {
-        Verb::Clear => Asked::Bad,
-        Verb::List => Asked::Bad,
-        Verb::Unknown => Asked::Bad,
-        _ => Asked::With(verb, count),
+    match trial_line::place_among(words, verb) {
+        0 => Ok(Asked::Up(count)),
+        1 => Ok(Asked::Down(count)),
+        2 => Ok(Asked::Report(count)),
+        3 => Ok(Asked::Show(count)),
+        _ => Err(BadLine),
     }
 }
 
 // ---- its answer
 fn answer(
     rt: &impl Print,
-    board: Board,
-    asked: Asked,
+    board: &mut Board,
+    asked: Result<Option<Asked>, BadLine>,
     bytes: &[u8],
     out: &mut [u8],
-) -> io::Result<Board> {
+) -> io::Result<()> {
+    let Ok(asked) = asked else {
+        return print(rt, out, trial_forms::bare(Form::BadLine));
+    };
     match asked {
-        Asked::Nothing => Ok(board),
-        Asked::Bad => {
-            print(rt, out, trial_forms::bare(trial_forms::BAD_LINE))?;
-            Ok(board)
+        None => Ok(()),
+        Some(Asked::Clear) => {
+            *board = board::empty();
+            print(rt, out, trial_forms::bare(Form::Done))
         }
-        Asked::Alone(verb) => answer_alone(rt, board, verb, out),
-        Asked::With(verb, count) => {
-            answer_with(rt, board, verb, trial_input::front(bytes, count), out)
+        Some(Asked::List) => print_peers(rt, out, &board.places),
+        Some(Asked::Up(count)) => print_done(rt, out, up(board, trial_input::front(bytes, count))),
+        Some(Asked::Down(count)) => {
+            print_done(rt, out, down(board, trial_input::front(bytes, count)))
         }
-    }
-}
-
-fn answer_alone(rt: &impl Print, board: Board, verb: Verb, out: &mut [u8]) -> io::Result<Board> {
-    let Verb::List = verb else {
-        print(rt, out, trial_forms::bare(trial_forms::OK))?;
-        return Ok(board::empty());
-    };
-    let places = board.places;
-    print_peers(rt, out, places)?;
-    Ok(board)
-}
-
-fn answer_with(
-    rt: &impl Print,
-    board: Board,
-    verb: Verb,
-    s: &[u8],
-    out: &mut [u8],
-) -> io::Result<Board> {
-    let Verb::Show = verb else {
-        let answered = call(board, verb, s);
-        print(rt, out, answered.shown)?;
-        return Ok(answered.board);
-    };
-    print_lookup(rt, out, board, s)?;
-    Ok(board)
-}
-
-fn call(board: Board, verb: Verb, s: &[u8]) -> Answered {
-    match verb {
-        Verb::Up => up(board, s),
-        Verb::Down => down(board, s),
-        _ => report(board, s),
+        Some(Asked::Report(count)) => {
+            print_done(rt, out, report(board, trial_input::front(bytes, count)))
+        }
+        Some(Asked::Show(count)) => {
+            print_lookup(rt, out, *board, trial_input::front(bytes, count))
+        }
     }
 }
 
@@ -223,145 +146,81 @@ fn print(rt: &impl Print, out: &mut [u8], shown: Shown) -> io::Result<()> {
     trial_input::write(rt, trial_input::front(out, end))
 }
 
+fn print_done(rt: &impl Print, out: &mut [u8], done: Result<(), Refusal>) -> io::Result<()> {
+    match done {
+        Ok(()) => print(rt, out, trial_forms::bare(Form::Done)),
+        Err(refusal) => print(rt, out, trial_forms::refused(refusal)),
+    }
+}
+
 // ---- the calls: each reads header and body, and lends the board
-fn up(board: Board, s: &[u8]) -> Answered {
-    let answer = per_peer_header::parse_per_peer_header(s);
-    let header = answer.header;
-    if answer.refusal.number != wire::GOOD {
-        return refused(board, answer.refusal);
-    }
-    up_behind(board, header, behind(s))
+fn up(board: &mut Board, s: &[u8]) -> Result<(), Refusal> {
+    let header = per_peer_header::parse_per_peer_header(s)?.header;
+    let (afi, peer_type) = (header.afi(), header.peer_type);
+    let body = peer_up_notification::parse_peer_up_notification(behind(s), afi, peer_type).map_err(
+        trial_entries::behind_header,
+    )?;
+    let (answer, next) = trial_board::lend_up(*board, header, body.message);
+    *board = next;
+    answer.map_err(refusal_of)
 }
 
-fn up_behind(board: Board, header: BmpPerPeerHeader, body: &[u8]) -> Answered {
-    let afi = header.afi();
-    let peer_type = header.peer_type;
-    let answer = peer_up_notification::parse_peer_up_notification(body, afi, peer_type);
-    let message = answer.message;
-    if answer.refusal.number != wire::GOOD {
-        return refused_behind(board, answer.refusal);
-    }
-    done(trial_board::lend_up(board, header, message))
+fn down(board: &mut Board, s: &[u8]) -> Result<(), Refusal> {
+    let header = per_peer_header::parse_per_peer_header(s)?.header;
+    let (notification, _) = peer_down_notification::parse_peer_down_notification(behind(s)).map_err(
+        trial_entries::behind_header,
+    )?;
+    let (answer, next) = trial_board::lend_down(*board, header, notification);
+    *board = next;
+    answer.map_err(refusal_of)
 }
 
-fn down(board: Board, s: &[u8]) -> Answered {
-    let answer = per_peer_header::parse_per_peer_header(s);
-    let header = answer.header;
-    if answer.refusal.number != wire::GOOD {
-        return refused(board, answer.refusal);
-    }
-    match peer_down_notification::parse_peer_down_notification(behind(s)) {
-        PeerDownAnswer::Refused(refusal) => refused_behind(board, refusal),
-        PeerDownAnswer::Good(notification, _) => {
-            done(trial_board::lend_down(board, header, notification))
-        }
-    }
-}
-
-fn report(board: Board, s: &[u8]) -> Answered {
-    let answer = per_peer_header::parse_per_peer_header(s);
-    let header = answer.header;
-    if answer.refusal.number != wire::GOOD {
-        return refused(board, answer.refusal);
-    }
-    report_behind(board, header, behind(s))
-}
-
-fn report_behind(board: Board, header: BmpPerPeerHeader, body: &[u8]) -> Answered {
-    let answer = stats_report::parse_stats_report(body);
-    let counters = answer.report;
-    if answer.refusal.number != wire::GOOD {
-        return refused_behind(board, answer.refusal);
-    }
-    done(trial_board::lend_report(board, header, counters))
+fn report(board: &mut Board, s: &[u8]) -> Result<(), Refusal> {
+    let header = per_peer_header::parse_per_peer_header(s)?.header;
+    let body = stats_report::parse_stats_report(behind(s)).map_err(trial_entries::behind_header)?;
+    let (answer, next) = trial_board::lend_report(*board, header, body.report);
+    *board = next;
+    answer.map_err(refusal_of)
 }
 
 fn behind(s: &[u8]) -> &[u8] {
-    let view = View {
-        place: BODY_AT,
-        length: wire::left(s, BODY_AT),
-    };
-    view.part(s)
+    s.get(BODY_AT..).unwrap_or(&[])
 }
 
-fn refused(board: Board, refusal: Refusal) -> Answered {
-    Answered {
-        shown: trial_forms::refused(refusal),
-        board: board,
-    }
-}
-
-fn refused_behind(board: Board, refusal: Refusal) -> Answered {
-    refused(board, trial_entries::behind_header(refusal))
-}
-
-fn done(updated: Updated) -> Answered {
-    let board = updated.board;
-    Answered {
-        shown: number_shown(updated.number),
-        board: board,
-    }
-}
-
-fn number_shown(number: u8) -> Shown {
-    trial_forms::judged(
-        wire::refusal_at(number, 0),
-        trial_forms::bare(trial_forms::OK),
-    )
+// A board's refusal is of the whole line.
+fn refusal_of(refused: BoardRefusal) -> Refusal {
+    wire::refusal_at(refused.number(), 0)
 }
 
 // ---- a lookup
 fn print_lookup(rt: &impl Print, out: &mut [u8], board: Board, s: &[u8]) -> io::Result<()> {
-    let answer = per_peer_header::parse_per_peer_header(s);
-    let header = answer.header;
-    if answer.refusal.number != wire::GOOD {
-        return print(rt, out, trial_forms::refused(answer.refusal));
+    match looked_up(board, s) {
+        Err(refusal) => print(rt, out, trial_forms::refused(refusal)),
+        Ok(None) => print(rt, out, trial_forms::bare(Form::NoneYet)),
+        Ok(Some(report)) => print_report(rt, out, report),
     }
-    let key = peer_key::key_of(header);
-    print_looked(rt, out, trial_board::lend_look(board, key))
 }
 
-fn print_looked(rt: &impl Print, out: &mut [u8], looked: Looked) -> io::Result<()> {
-    let peer = looked.peer;
-    if looked.number != wire::GOOD {
-        return print(rt, out, number_shown(looked.number));
-    }
-    print_peer(rt, out, peer)
-}
-
-fn print_peer(rt: &impl Print, out: &mut [u8], peer: Peer) -> io::Result<()> {
-    let report = peer.report;
-    if peer.reported {
-        print_report(rt, out, report)
-    } else {
-        print(rt, out, trial_forms::bare(trial_forms::NONE_YET))
-    }
+fn looked_up(board: Board, s: &[u8]) -> Result<Option<KeptReport>, Refusal> {
+    let header = per_peer_header::parse_per_peer_header(s)?.header;
+    trial_board::lend_look(board, peer_key::key_of(header)).map_err(refusal_of)
 }
 
 fn print_report(rt: &impl Print, out: &mut [u8], report: KeptReport) -> io::Result<()> {
     let count = report.count;
-    let mut next = trial_forms::put(out, 0, counted(trial_forms::REPORT, count as u64), b"");
-    for i in 0..stats_report::COUNTER_PLACES {
-        let counter = report.counters[i];
-        next = put_counter(out, next, i, count, counter);
+    let mut next = trial_forms::put(out, 0, counted(Form::Report, count as u64), b"");
+    for (i, counter) in report.counters.iter().take(count).enumerate() {
+        next = trial_forms::put(out, next, counter_shown(i as u64, *counter), b"");
     }
     print_end(rt, out, next)
 }
 
-// A counter past the count is none.
-fn put_counter(out: &mut [u8], at: usize, i: usize, count: usize, counter: KeptCounter) -> usize {
-    if i < count {
-        return trial_forms::put(out, at, counter_shown(i as u64, counter), b"");
-    }
-    at
-}
-
-fn counted(form: usize, count: u64) -> Shown {
+fn counted(form: Form, count: u64) -> Shown {
     trial_forms::of_five(form, 0, count, 0, 0, 0, 0)
 }
 
 fn print_end(rt: &impl Print, out: &mut [u8], at: usize) -> io::Result<()> {
-    let end = trial_forms::put(out, at, trial_forms::bare(trial_forms::TABLE_END), b"");
+    let end = trial_forms::put(out, at, trial_forms::bare(Form::TableEnd), b"");
     trial_input::write(rt, trial_input::front(out, end))
 }
 
@@ -369,17 +228,14 @@ fn print_end(rt: &impl Print, out: &mut [u8], at: usize) -> io::Result<()> {
 fn counter_shown(i: u64, counter: KeptCounter) -> Shown {
     let kind = counter.kind as u64;
     let size = counter.stat_len as u64;
-    let stat_type = counter.stat_type();
-    let name = trial_entries::stat_name(stat_type);
+    let name = trial_entries::stat_name(counter.stat_type());
     match counter.stat_data() {
         KeptData::Counter(n) => {
-            trial_entries::of_seven(trial_forms::COUNTER, i, kind, size, name, n as u64, 0, 0)
+            trial_entries::of_seven(Form::Counter, i, kind, size, name, n as u64, 0, 0)
         }
-        KeptData::Gauge(n) => {
-            trial_entries::of_seven(trial_forms::GAUGE, i, kind, size, name, n, 0, 0)
-        }
+        KeptData::Gauge(n) => trial_entries::of_seven(Form::Gauge, i, kind, size, name, n, 0, 0),
         KeptData::AfiSafiGauge(afi, safi, n) => trial_entries::of_seven(
-            trial_forms::AFI_SAFI_GAUGE,
+            Form::AfiSafiGauge,
             i,
             kind,
             size,
@@ -388,7 +244,7 @@ fn counter_shown(i: u64, counter: KeptCounter) -> Shown {
             safi as u64,
             n,
         ),
-        KeptData::Raw => { trial_entries::of_seven(trial_forms::RAW, i, kind, size, name, 0, 0, 0) }
+        KeptData::Raw => trial_entries::of_seven(Form::Raw, i, kind, size, name, 0, 0, 0),
     }
 }
 
@@ -396,53 +252,30 @@ fn counter_shown(i: u64, counter: KeptCounter) -> Shown {
 fn print_peers(
     rt: &impl Print,
     out: &mut [u8],
-    places: [Place; board::PEER_PLACES],
+    places: &[Option<PeerKey>; board::PEER_PLACES],
 ) -> io::Result<()> {
-    let mut next = trial_forms::put(out, 0, counted(trial_forms::PEERS, used(places)), b"");
+    let used = places.iter().filter(|place| place.is_some()).count();
+    let mut next = trial_forms::put(out, 0, counted(Form::Peers, used as u64), b"");
     let mut shown: u64 = 0;
-    for i in 0..board::PEER_PLACES {
-        let place = places[i];
-        next = put_place(out, next, shown, place);
-        shown = one_more(shown, place.used);
+    for place in places.iter() {
+        if let Some(key) = place {
+            next = trial_forms::put(out, next, peer_shown(shown, *key), b"");
+            shown = shown.wrapping_add(1);
+        }
     }
     print_end(rt, out, next)
 }
 
-fn put_place(out: &mut [u8], at: usize, shown: u64, place: Place) -> usize {
-    if place.used {
-        return trial_forms::put(out, at, place_shown(shown, place), b"");
-    }
-    at
-}
-
-fn one_more(count: u64, counts: bool) -> u64 {
-    if counts {
-        return std::num::wrapping_add_u64(count, 1);
-    }
-    count
-}
-
-fn used(places: [Place; board::PEER_PLACES]) -> u64 {
-    let mut count: u64 = 0;
-    for i in 0..board::PEER_PLACES {
-        count = one_more(count, places[i].used);
-    }
-    count
-}
-
-fn place_shown(i: u64, place: Place) -> Shown {
-    let key = place.key;
-    let peer_type = key.peer_type;
-    let afi = key.afi;
+fn peer_shown(i: u64, key: PeerKey) -> Shown {
     let octets = key.octets;
     trial_entries::of_seven(
-        trial_forms::PEER,
+        Form::Peer,
         i,
-        peer_type.number() as u64,
-        family(afi),
+        key.peer_type.number() as u64,
+        family(key.afi),
         key.peer_distinguisher.0,
-        numbers::u64_at(&octets, 0),
-        numbers::u64_at(&octets, 8),
+        u64::read_at(&octets, 0),
+        u64::read_at(&octets, 8),
         key.peer_bgp_id.0 as u64,
     )
 }

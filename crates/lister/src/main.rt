@@ -5,8 +5,6 @@ ghost use Rattle.std.specs.Prelude.{◌≤◌, IfOk, length};
 
 use std::io;
 use std::io::Read;
-use wire::View;
-use writing::WriteAnswer;
 
 fn main(rt: HostRuntime) -> io::Result<()> {
     // One byte more than is listed, to see whether there is more.
@@ -15,7 +13,8 @@ fn main(rt: HostRuntime) -> io::Result<()> {
     print_listing(&rt, &input[..n])
 }
 
-// Reads until the buffer is full or the input ends, and answers how many bytes it put at the buffer's start.
+// Reads until the buffer is full or the input ends, and answers how many bytes it put at the buffer's start. std's read_exact does not say how
+// many those are where the input is shorter, and its read_to_end takes a list on the heap.
 fn read_full(reader: &mut impl Read, buffer: &mut [u8]) -> io::Result<usize>
     ensures { IfOk result (λ n. n ≤ length buffer.new) }
 {
@@ -32,12 +31,8 @@ fn read_full(reader: &mut impl Read, buffer: &mut [u8]) -> io::Result<usize>
 
 fn print_listing(rt: &impl Print, s: &[u8]) -> io::Result<()> {
     let mut text = [0u8; listing::ENOUGH];
-    if let WriteAnswer::Written(length) = listing::list_messages(s, &mut text) {
-        let written = View {
-            place: 0,
-            length: length,
-        };
-        rt.write_all(written.part(&text))?;
+    match listing::list_messages(s, &mut text) {
+        Ok(length) => rt.write_all(&text[..length]),
+        Err(_) => Ok(()),
     }
-    Ok(())
 }

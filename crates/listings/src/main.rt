@@ -7,8 +7,6 @@ use std::env::{Env, FillError};
 use std::io::Read;
 use std::rt::Files;
 use std::{fs, io, str};
-use wire::View;
-use writing::WriteAnswer;
 
 fn main(rt: HostRuntime) -> io::Result<()> {
     if !list_argument(&rt, 1)? {
@@ -92,14 +90,10 @@ fn can_be_read(file: &mut impl Read) -> bool {
 
 fn print_listing(rt: &impl Print, s: &[u8]) -> io::Result<()> {
     let mut text = [0u8; listing::ENOUGH];
-    if let WriteAnswer::Written(length) = listing::list_messages(s, &mut text) {
-        let written = View {
-            place: 0,
-            length: length,
-        };
-        print(rt, written.part(&text))?;
+    match listing::list_messages(s, &mut text) {
+        Ok(length) => print(rt, &text[..length]),
+        Err(_) => Ok(()),
     }
-    Ok(())
 }
 
 fn print(rt: &impl Print, text: &[u8]) -> io::Result<()> {

@@ -4,9 +4,8 @@
 use receiver::{Outcome, Received, Receiver};
 use std::io;
 use std::io::Read;
-use trial_forms::Shown;
-use trial_hex::Unhexed;
 use trial_input::Input;
+use trial_line::BadLine;
 use wire::View;
 
 // `piece ` and a text of 131,072 characters.
@@ -21,33 +20,9 @@ const ARRAY: usize = receiver::BUFFER + 1;
 // Two digits for each byte of the longest message, and what stands beside them.
 const LONGEST_ANSWER: usize = 2 * receiver::BUFFER + 128;
 
-// The numbers of the forms of an answer, in the order of the table in print.
-const BAD_LINE: usize = 0;
-
-const OK: usize = 1;
-
-const TOOK: usize = 2;
-
-const TOOK_MESSAGE: usize = 3;
-
-const TOOK_SKIPPED: usize = 4;
-
-const TOOK_REFUSED: usize = 5;
-
-#[derive(Clone, Copy)]
-enum Verb {
-    Piece,
-    Size,
-    Forge,
-    Reset,
-    Unknown,
-}
-
-// What a line asks for: nothing, or a call or a change, with how many bytes its text writes or the size that it names.
+// A call or a change that a line asks for, with how many bytes its text writes or the size that it names.
 #[derive(Clone, Copy)]
 enum Asked {
-    Nothing,
-    Bad,
     Piece(usize),
     Size(usize),
     Forge(usize),
@@ -132,165 +107,116 @@ fn answer_line(
     let length = input.line_length;
     let asked = ask(trial_input::front(line, length), bytes);
     Ok(Turn {
-        input: input,
+        input,
         session: answer(rt, session, asked, bytes, array, out)?,
     })
 }
 
 // ---- a line, taken apart
+// An empty line asks for nothing.
+fn ask(text: &[u8], bytes: &mut [u8]) -> Result<Option<Asked>, BadLine> {
+    if text.is_empty() {
+        return Ok(None);
+    }
+    let asked = asked_by(text, bytes).ok_or(BadLine)?;
+    Ok(Some(asked))
+}
+
 // A verb, and behind one space what it is about.
-fn ask(text: &[u8], bytes: &mut [u8]) -> Asked {
-    if text.len() == 0 {
-        return Asked::Nothing;
+fn asked_by(text: &[u8], bytes: &mut [u8]) -> Option<Asked> {
+    if matches!(text, b"reset") {
+        return Some(Asked::Reset);
     }
-    let space = trial_hex::place_of(text, b' ');
-    if text.len() <= space {
-        return ask_alone(verb_of(text));
+    if let Some(size) = text.strip_prefix(b"size ") {
+        return size_of(size).map(Asked::Size);
     }
-    ask_about(verb_of(&text[0..space]), &text[space + 1..], bytes)
-}
-
-fn verb_of(text: &[u8]) -> Verb {
-    let words = b"piece         \
-        size          \
-        forge         \
-        reset         ";
-    match trial_line::place_among(words, text) {
-        0 => Verb::Piece,
-        1 => Verb::Size,
-        2 => Verb::Forge,
-        3 => Verb::Reset,
-        _ => Verb::Unknown,
+    if let Some(piece) = text.strip_prefix(b"piece ") {
+        return trial_hex::unhex(piece, bytes).map(Asked::Piece);
     }
-}
-
-fn ask_alone(verb: Verb) -> Asked {
-    match verb {
-        Verb::Reset => Asked::Reset,
-        _ => Asked::Bad,
-    }
-}
-
-fn ask_about(verb: Verb, text: &[u8], bytes: &mut [u8]) -> Asked {
-    let Verb::Size = verb else {
-        return ask_bytes(verb, trial_hex::unhex(text, bytes));
-    };
-    ask_size(text)
-}
-
-fn ask_bytes(verb: Verb, found: Unhexed) -> Asked {
-    let Unhexed::Bytes(count) = found else {
-        return Asked::Bad;
-    };
-    match verb {
-        Verb::Piece => Asked::Piece(count),
-        Verb::Forge => ask_forge(count),
-        _ => Asked::Bad,
-    }
-}
-
-fn ask_forge(count: usize) -> Asked {
+    let held = text.strip_prefix(b"forge ")?;
+    let count = trial_hex::unhex(held, bytes)?;
     if ARRAY < count {
-        return Asked::Bad;
+        return None;
     }
-    Asked::Forge(count)
+    Some(Asked::Forge(count))
 }
 
-fn ask_size(text: &[u8]) -> Asked {
-    if is_zero(text) {
-        return Asked::Size(0);
+fn size_of(text: &[u8]) -> Option<usize> {
+    if matches!(text, b"0") {
+        return Some(0);
     }
     let size = trial_hex::number_of(text);
-    if size == 0 {
-        return Asked::Bad;
+    if size == 0 || ARRAY < size {
+        return None;
     }
-    if ARRAY < size {
-        return Asked::Bad;
-    }
-    Asked::Size(size)
-}
-
-fn is_zero(text: &[u8]) -> bool {
-    if text.len() != 1 {
-        return false;
-    }
-    text[0] == b'0'
+    Some(size)
 }
 
 // ---- its answer
 fn answer(
     rt: &impl Print,
     session: Session,
-    asked: Asked,
+    asked: Result<Option<Asked>, BadLine>,
     bytes: &[u8],
     array: &mut [u8],
     out: &mut [u8],
 ) -> io::Result<Session> {
     match asked {
-        Asked::Nothing => Ok(session),
-        Asked::Bad => {
-            print(rt, out, trial_forms::bare(BAD_LINE), b"")?;
+        Ok(None) => Ok(session),
+        Err(BadLine) => {
+            print(rt, out, b"bad line\n", &[], b"")?;
             Ok(session)
         }
-        Asked::Piece(count) => {
+        Ok(Some(Asked::Piece(count))) => {
             take_piece(rt, session, trial_input::front(bytes, count), array, out)
         }
-        Asked::Size(size) => confirm(rt, out, resized(session, size)),
-        Asked::Forge(count) => {
+        Ok(Some(Asked::Size(size))) => confirm(
+            rt,
+            out,
+            Session {
+                lent: size,
+                ..session
+            },
+        ),
+        Ok(Some(Asked::Forge(count))) => {
             confirm(
                 rt,
                 out,
                 forged(session, trial_input::front(bytes, count), array),
             )
         }
-        Asked::Reset => confirm(rt, out, with_state(session, receiver::reset())),
+        Ok(Some(Asked::Reset)) => {
+            let state = receiver::reset();
+            confirm(rt, out, Session { state, ..session })
+        }
     }
 }
 
 fn confirm(rt: &impl Print, out: &mut [u8], changed: Session) -> io::Result<Session> {
-    print(rt, out, trial_forms::bare(OK), b"")?;
+    print(rt, out, b"ok\n", &[], b"")?;
     Ok(changed)
 }
 
-fn print(rt: &impl Print, out: &mut [u8], shown: Shown, body: &[u8]) -> io::Result<()> {
-    let forms = b"bad line\n|\
-        ok\n|\
-        took # held #\n|\
-        took # held # message $\n|\
-        took # held # skipped $\n|\
-        took # held # refused # at #\n|";
-    let end = trial_forms::put_shown(out, 0, forms, shown, body);
+// Prints a form with its numbers (docs/REPLAY.md, "Forms").
+fn print(
+    rt: &impl Print,
+    out: &mut [u8],
+    form: &[u8],
+    numbers: &[u64],
+    body: &[u8],
+) -> io::Result<()> {
+    let end = trial_forms::put_shown(out, 0, form, numbers, body);
     trial_input::write(rt, trial_input::front(out, end))
-}
-
-// ---- the changes
-fn resized(session: Session, size: usize) -> Session {
-    let state = session.state;
-    Session {
-        state: state,
-        lent: size,
-    }
-}
-
-fn with_state(session: Session, state: Receiver) -> Session {
-    Session {
-        state: state,
-        lent: session.lent,
-    }
 }
 
 // The state says that the bytes are held, as if they had been received; a refusal that stands is kept.
 fn forged(session: Session, bytes: &[u8], array: &mut [u8]) -> Session {
     writing::put_bytes(array, 0, bytes);
-    let state = session.state;
-    let standing = state.standing;
-    with_state(
-        session,
-        Receiver {
-            held: bytes.len(),
-            standing: standing,
-        },
-    )
+    let state = Receiver {
+        held: bytes.len(),
+        ..session.state
+    };
+    Session { state, ..session }
 }
 
 // ---- a call
@@ -302,11 +228,12 @@ fn take_piece(
     array: &mut [u8],
     out: &mut [u8],
 ) -> io::Result<Session> {
-    let state = session.state;
-    let received = receiver::receive(lend(array, session.lent), state, piece);
-    print(rt, out, shown_of(received), array)?;
-    let after = received.state;
-    Ok(with_state(session, after))
+    let received = receiver::receive(lend(array, session.lent), session.state, piece);
+    print_received(rt, out, received, array)?;
+    Ok(Session {
+        state: received.state,
+        ..session
+    })
 }
 
 // The first bytes of the array. No size is above its length; were one, the receiver would refuse what it is lent.
@@ -317,28 +244,54 @@ fn lend(array: &mut [u8], size: usize) -> &mut [u8] {
     &mut array[0..size]
 }
 
-fn shown_of(received: Received) -> Shown {
-    let outcome = received.outcome;
-    match outcome {
-        Outcome::Waiting(_) => shown_with(TOOK, received, 0, 0),
-        Outcome::Message(_, message) => shown_whole(TOOK_MESSAGE, received, message),
-        Outcome::Skipped(_, message) => shown_whole(TOOK_SKIPPED, received, message),
-        Outcome::Refused(refusal) => {
-            shown_with(
-                TOOK_REFUSED,
-                received,
-                refusal.number as u64,
-                refusal.place as u64,
+fn print_received(
+    rt: &impl Print,
+    out: &mut [u8],
+    received: Received,
+    array: &[u8],
+) -> io::Result<()> {
+    match received.outcome {
+        Ok(Outcome::Waiting(_)) => {
+            print(rt, out, b"took # held #\n", &numbers(received, 0, 0), array)
+        }
+        Ok(Outcome::Message(_, view)) => {
+            print(
+                rt,
+                out,
+                b"took # held # message $\n",
+                &of_view(received, view),
+                array,
+            )
+        }
+        Ok(Outcome::Skipped(_, view)) => {
+            print(
+                rt,
+                out,
+                b"took # held # skipped $\n",
+                &of_view(received, view),
+                array,
+            )
+        }
+        Err(refusal) => {
+            let number = refusal.number as u64;
+            let place = refusal.place as u64;
+            print(
+                rt,
+                out,
+                b"took # held # refused # at #\n",
+                &numbers(received, number, place),
+                array,
             )
         }
     }
 }
 
-fn shown_whole(form: usize, received: Received, message: View) -> Shown {
-    shown_with(form, received, message.place as u64, message.length as u64)
+fn of_view(received: Received, view: View) -> [u64; 4] {
+    numbers(received, view.place as u64, view.length as u64)
 }
 
-fn shown_with(form: usize, received: Received, a: u64, b: u64) -> Shown {
+// Where a form has fewer marks, the last numbers have no say.
+fn numbers(received: Received, a: u64, b: u64) -> [u64; 4] {
     let state = received.state;
-    trial_forms::of_five(form, 0, received.took as u64, state.held as u64, a, b, 0)
+    [received.took as u64, state.held as u64, a, b]
 }

@@ -4,11 +4,10 @@
 
 use std::io;
 use std::io::Read;
-use trial_forms::{Arguments, Kind, Shown};
+use trial_forms::{Arguments, Kind};
 use trial_input::Input;
-use trial_line::{Asked, Command, Verb};
-use wire::{Refusal, View};
-use writing::WriteAnswer;
+use trial_line::{BadLine, Command, Verb};
+use wire::Refusal;
 
 const LONGEST_LINE: usize = 131_107;
 
@@ -20,29 +19,6 @@ const SMALL: usize = 65_536;
 
 // What stands in an output before it is lent to a writer.
 const UNTOUCHED: u8 = 0xA5;
-
-// The numbers of the forms that answers are put together of.
-const BAD_LINE: usize = 0;
-
-const INTO: usize = 1;
-
-const WRITTEN_SAME: usize = 2;
-
-const WRITTEN_OTHER: usize = 3;
-
-const NOT_WRITTEN: usize = 4;
-
-const OUTSIDE_SAME: usize = 5;
-
-const OUTSIDE_OTHER: usize = 6;
-
-const CHANGED: usize = 7;
-
-const WRITABLE: usize = 8;
-
-const NOT_WRITABLE: usize = 9;
-
-const CUT: usize = 10;
 
 fn main(rt: HostRuntime) -> io::Result<()> {
     let mut piece = [0u8; 4_096];
@@ -92,28 +68,24 @@ fn try_next(
     Ok(input)
 }
 
+// Lines of every verb but `rewrite-` have no record to write.
 fn try_line(rt: &impl Print, line: &[u8], bytes: &mut [u8], out: &mut [u8]) -> io::Result<()> {
     match trial_line::ask(line, bytes) {
-        Asked::Nothing => Ok(()),
-        Asked::Bad => print(rt, BAD_LINE, 0, 0),
-        Asked::Good(command, count) => try_command(rt, line, command, count, bytes, out),
+        Ok(None) => Ok(()),
+        Ok(
+            Some(
+                (
+                    Command {
+                        verb: Verb::Rewrite(kind),
+                        arguments,
+                        ..
+                    },
+                    count,
+                ),
+            ),
+        ) => try_record(rt, line, kind, arguments, count, bytes, out),
+        Ok(Some(_)) | Err(BadLine) => println!(rt; "bad line"),
     }
-}
-
-// Lines of every verb but `rewrite-` have no record to write.
-fn try_command(
-    rt: &impl Print,
-    line: &[u8],
-    command: Command,
-    count: usize,
-    bytes: &[u8],
-    out: &mut [u8],
-) -> io::Result<()> {
-    let verb = command.verb;
-    let Verb::Rewrite(kind) = verb else {
-        return print(rt, BAD_LINE, 0, 0);
-    };
-    try_record(rt, line, kind, command.arguments, count, bytes, out)
 }
 
 fn try_record(
@@ -170,16 +142,12 @@ fn change_of(case: usize) -> u8 {
 // room is looked at.
 fn room_of(case: usize, count: usize) -> usize {
     match case {
-        0 => std::num::wrapping_add_usize(count, 1),
+        0 => count.wrapping_add(1),
         1 => count,
-        2 => one_less(count),
+        2 => count.saturating_sub(1),
         4 => ROOM,
         _ => 0,
     }
-}
-
-fn one_less(count: usize) -> usize {
-    if count == 0 { 0 } else { count - 1 }
 }
 
 // Each change of the record's kind, with all the room there is.
@@ -207,17 +175,17 @@ fn try_values(rt: &impl Print, kind: Kind, s: &[u8], buffer_length: usize) -> io
     let Kind::Stats = kind else {
         return Ok(());
     };
-    try_value(rt, 1, s, buffer_length)?;
-    try_value(rt, 2, s, buffer_length)?;
-    try_value(rt, 3, s, buffer_length)?;
-    try_value(rt, 4, s, buffer_length)
+    for trial in 1..5 {
+        try_value(rt, trial, s, buffer_length)?;
+    }
+    Ok(())
 }
 
 fn try_value(rt: &impl Print, trial: u8, s: &[u8], buffer_length: usize) -> io::Result<()> {
     if trial_writers::is_value_writable(trial, s, buffer_length) {
-        print(rt, WRITABLE, trial as usize, 0)
+        println!(rt; "value stats {trial}: writable")
     } else {
-        print(rt, NOT_WRITABLE, trial as usize, 0)
+        println!(rt; "value stats {trial}: not writable")
     }
 }
 
@@ -229,7 +197,7 @@ fn write(
     room: usize,
     bytes: &[u8],
     out: &mut [u8],
-) -> WriteAnswer {
+) -> Result<usize, Refusal> {
     let s = trial_input::front(bytes, count);
     trial_writers::write(kind, arguments, change, s, bytes, front_mut(out, room))
 }
@@ -242,120 +210,73 @@ fn front_mut(out: &mut [u8], length: usize) -> &mut [u8] {
 }
 
 fn print_heading(rt: &impl Print, line: &[u8], case: usize, count: usize) -> io::Result<()> {
-    let length = std::num::wrapping_add_usize(count, change_of(case) as usize);
+    let length = count.wrapping_add(change_of(case) as usize);
+    let room = room_of(case, count);
     print_name(rt, b"write ", line)?;
-    print(rt, INTO, length, room_of(case, count))
+    print!(rt; " {length} into {room}: ")
 }
 
 fn print_change(rt: &impl Print, line: &[u8], change: u8) -> io::Result<()> {
     print_name(rt, b"change ", line)?;
-    print(rt, CHANGED, change as usize, 0)
+    print!(rt; " {change}: ")
 }
 
 // The name of the reader stands in the line's verb, behind `rewrite-`.
 fn print_name(rt: &impl Print, heading: &[u8], line: &[u8]) -> io::Result<()> {
-    let name = View {
-        place: 8,
-        length: std::num::wrapping_sub_usize(trial_hex::place_of(line, b' '), 8),
-    };
     trial_input::write(rt, heading)?;
-    trial_input::write(rt, name.part(line))
+    let end = trial_hex::place_of(line, b' ');
+    trial_input::write(rt, line.get(8..end).unwrap_or(b""))
 }
 
 // What was written is to be the bytes that the record was read from, and every other byte of the output what it was.
-fn print_written(rt: &impl Print, answer: WriteAnswer, bytes: &[u8], out: &[u8]) -> io::Result<()> {
+fn print_written(
+    rt: &impl Print,
+    answer: Result<usize, Refusal>,
+    bytes: &[u8],
+    out: &[u8],
+) -> io::Result<()> {
     match answer {
-        WriteAnswer::Written(length) => {
-            print(rt, written_form(is_copied(bytes, out, length)), length, 0)?;
+        Ok(length) => {
+            let inside = if is_copied(bytes, out, length) {
+                "same"
+            } else {
+                "other"
+            };
+            print!(rt; "written {length} inside={inside} ")?;
             print_outside(rt, out, length)
         }
-        WriteAnswer::Refused(refusal) => {
+        Err(refusal) => {
             print_refusal(rt, refusal)?;
             print_outside(rt, out, 0)
         }
     }
 }
 
-fn written_form(same: bool) -> usize {
-    if same { WRITTEN_SAME } else { WRITTEN_OTHER }
-}
-
 fn is_copied(bytes: &[u8], out: &[u8], n: usize) -> bool {
-    if bytes.len() < n {
-        return false;
+    match (bytes.get(..n), out.get(..n)) {
+        (Some(read), Some(written)) => read == written,
+        _ => false,
     }
-    if out.len() < n {
-        return false;
-    }
-    for i in 0..n {
-        if out[i] != bytes[i] {
-            return false;
-        }
-    }
-    true
 }
 
 fn print_outside(rt: &impl Print, out: &[u8], start: usize) -> io::Result<()> {
-    if is_untouched(out, start) {
-        print(rt, OUTSIDE_SAME, 0, 0)
+    if out.iter().skip(start).all(|byte| *byte == UNTOUCHED) {
+        println!(rt; "outside=same")
     } else {
-        print(rt, OUTSIDE_OTHER, 0, 0)
+        println!(rt; "outside=other")
     }
-}
-
-fn is_untouched(out: &[u8], start: usize) -> bool {
-    for i in start..out.len() {
-        if out[i] != UNTOUCHED {
-            return false;
-        }
-    }
-    true
 }
 
 // A Cut alone says what is missing.
 fn print_refusal(rt: &impl Print, refusal: Refusal) -> io::Result<()> {
-    if refusal.number == wire::CUT {
-        print_three(
-            rt,
-            CUT,
-            refusal.number as usize,
-            refusal.place,
-            refusal.missing,
-        )
+    let Refusal {
+        number,
+        place,
+        missing,
+    } = refusal;
+    if number == wire::CUT {
+        print!(rt; "refused {number} at {place} missing {missing} ")
     } else {
-        print(rt, NOT_WRITTEN, refusal.number as usize, refusal.place)
+        print!(rt; "refused {number} at {place} ")
     }
-}
-
-fn print(rt: &impl Print, form: usize, first: usize, second: usize) -> io::Result<()> {
-    print_three(rt, form, first, second, 0)
-}
-
-// Prints a form with its numbers (docs/REPLAY.md, "Forms").
-fn print_three(
-    rt: &impl Print,
-    form: usize,
-    first: usize,
-    second: usize,
-    third: usize,
-) -> io::Result<()> {
-    let mut text = [0u8; 96];
-    let shown = trial_forms::of_five(form, 0, first as u64, second as u64, third as u64, 0, 0);
-    let end = put(&mut text, shown);
-    trial_input::write(rt, trial_input::front(&text, end))
-}
-
-fn put(text: &mut [u8], shown: Shown) -> usize {
-    let forms = b"bad line\n|\
-        \x20# into #: |\
-        written # inside=same |\
-        written # inside=other |\
-        refused # at # |\
-        outside=same\n|\
-        outside=other\n|\
-        \x20#: |\
-        value stats #: writable\n|\
-        value stats #: not writable\n|\
-        refused # at # missing # |";
-    trial_forms::put_shown(text, 0, forms, shown, b"")
 }

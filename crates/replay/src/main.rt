@@ -3,10 +3,9 @@
 
 use std::io;
 use std::io::Read;
-use trial_forms::{Kind, Shown};
+use trial_forms::{Arguments, Form, Kind};
 use trial_input::Input;
-use trial_line::{Asked, Command, Verb};
-use writing::WriteAnswer;
+use trial_line::{BadLine, Command, Verb};
 
 // `rewrite-peerup afi=4,asn=16,type=0 ` and a text of 131,072 characters.
 const LONGEST_LINE: usize = 131_107;
@@ -72,111 +71,81 @@ fn answer_line(
     Ok(input)
 }
 
-fn put_asked(out: &mut [u8], asked: Asked, bytes: &[u8], room: &mut [u8]) -> usize {
+fn put_asked(
+    out: &mut [u8],
+    asked: Result<Option<(Command, usize)>, BadLine>,
+    bytes: &[u8],
+    room: &mut [u8],
+) -> usize {
     match asked {
-        Asked::Nothing => 0,
-        Asked::Bad => put_bad_line(out),
-        Asked::Good(command, count) => {
+        Ok(None) => 0,
+        Ok(Some((command, count))) => {
             put_answer(out, command, trial_input::front(bytes, count), room)
         }
+        Err(BadLine) => trial_forms::put(out, 0, trial_forms::bare(Form::BadLine), b""),
     }
-}
-
-fn put_bad_line(out: &mut [u8]) -> usize {
-    trial_forms::put(out, 0, trial_forms::bare(trial_forms::BAD_LINE), b"")
 }
 
 fn put_answer(out: &mut [u8], command: Command, body: &[u8], room: &mut [u8]) -> usize {
-    let found = answer_of(command, body);
-    if is_rewritten(command, found.form) {
-        let numbers = found.numbers;
-        return put_written(out, command, body, output(room, numbers[1] as usize));
+    match command.verb {
+        Verb::Read(kind) => put_read(out, kind, command.arguments, body),
+        Verb::Rewrite(kind) => put_rewritten(out, kind, command.arguments, body, room),
+        Verb::Split => trial_forms::put(out, 0, trial_readers::split(body), body),
+        Verb::Equal => trial_forms::put(out, 0, trial_entries::equal(body), body),
     }
-    let next = trial_forms::put(out, 0, found, body);
-    if found.form < trial_forms::PEER_UP {
+}
+
+fn put_read(out: &mut [u8], kind: Kind, arguments: Arguments, body: &[u8]) -> usize {
+    let found = trial_readers::read(kind, arguments, body);
+    let mut next = trial_forms::put(out, 0, found, body);
+    if !found.form.begins_table() {
         return next;
     }
-    put_entries(out, next, found.count, command, body)
-}
-
-fn answer_of(command: Command, body: &[u8]) -> Shown {
-    let verb = command.verb;
-    match verb {
-        Verb::Split => trial_readers::split(body),
-        Verb::Equal => trial_entries::equal(body),
-        Verb::Unknown => trial_forms::bare(trial_forms::BAD_LINE),
-        _ => trial_readers::read(kind_of(command), command.arguments, body),
+    for i in 0..found.count {
+        let entry = trial_entries::entry(kind, arguments, body, i);
+        next = trial_forms::put(out, next, entry, body);
     }
-}
-
-// What is read or rewritten; the other verbs do not ask.
-fn kind_of(command: Command) -> Kind {
-    let verb = command.verb;
-    match verb {
-        Verb::Read(kind) => kind,
-        Verb::Rewrite(kind) => kind,
-        _ => Kind::Common,
-    }
+    trial_forms::put(out, next, trial_forms::bare(Form::TableEnd), body)
 }
 
 // A record that the reader refuses is not written.
-fn is_rewritten(command: Command, form: usize) -> bool {
-    let verb = command.verb;
-    match verb {
-        Verb::Rewrite(_) => trial_forms::CUT < form,
-        _ => false,
+fn put_rewritten(
+    out: &mut [u8],
+    kind: Kind,
+    arguments: Arguments,
+    body: &[u8],
+    room: &mut [u8],
+) -> usize {
+    let found = trial_readers::read(kind, arguments, body);
+    if found.form.is_refusal() {
+        return trial_forms::put(out, 0, found, body);
     }
-}
-
-fn put_entries(out: &mut [u8], at: usize, count: usize, command: Command, body: &[u8]) -> usize {
-    let mut next = at;
-    for i in 0..count {
-        next = trial_forms::put(out, next, entry(command, body, i), body);
-    }
-    trial_forms::put(out, next, trial_forms::bare(trial_forms::TABLE_END), body)
-}
-
-fn entry(command: Command, body: &[u8], i: usize) -> Shown {
-    trial_entries::entry(kind_of(command), command.arguments, body, i)
+    let tail = found.numbers[1] as usize;
+    put_written(out, kind, arguments, body, output(room, tail))
 }
 
 // Two bytes more than the tail's start. A tail starts within the line's bytes, so there is always room; were there none, the writer would
 // say so.
 fn output(room: &mut [u8], tail: usize) -> &mut [u8] {
     if wire::left(room, tail) < 2 {
-        return &mut room[0..0];
+        return &mut [];
     }
-    &mut room[0..tail + 2]
-}
-
-fn put_written(out: &mut [u8], command: Command, body: &[u8], lent: &mut [u8]) -> usize {
-    trial_hex::put_untouched(lent);
-    let shown = written(command, body, lent);
-    trial_forms::put(out, 0, shown, lent)
+    &mut room[..tail + 2]
 }
 
 // The writer's answer, and the whole of its output afterwards.
-fn written(command: Command, body: &[u8], lent: &mut [u8]) -> Shown {
-    let kind = kind_of(command);
-    match trial_writers::write(
-        kind,
-        command.arguments,
-        trial_writers::UNCHANGED,
-        body,
-        body,
-        lent,
-    ) {
-        WriteAnswer::Refused(refusal) => trial_forms::refused(refusal),
-        WriteAnswer::Written(n) => {
-            trial_forms::of_five(
-                trial_forms::WRITTEN,
-                0,
-                n as u64,
-                0,
-                lent.len() as u64,
-                0,
-                0,
-            )
-        }
-    }
+fn put_written(
+    out: &mut [u8],
+    kind: Kind,
+    arguments: Arguments,
+    body: &[u8],
+    lent: &mut [u8],
+) -> usize {
+    trial_hex::put_untouched(lent);
+    let change = trial_writers::UNCHANGED;
+    let shown = match trial_writers::write(kind, arguments, change, body, body, lent) {
+        Ok(n) => trial_forms::of_five(Form::Written, 0, n as u64, 0, lent.len() as u64, 0, 0),
+        Err(refusal) => trial_forms::refused(refusal),
+    };
+    trial_forms::put(out, 0, shown, lent)
 }

@@ -3,53 +3,49 @@
 
 ghost use Rattle.board.specs.Board.{Upped, Downed, Reported, LookedUp};
 
-use board::{Board, Looked, Updated};
+use board::{Board, BoardRefusal};
+use kept_report::KeptReport;
 use peer_down_notification::PeerDownNotification;
 use peer_key::PeerKey;
 use peer_up_notification::PeerUpNotification;
 use per_peer_record::BmpPerPeerHeader;
 use stats_report::StatsReport;
 
-pub fn lend_up(board: Board, header: BmpPerPeerHeader, notification: PeerUpNotification) -> Updated
-    ensures { Upped board header notification result.number result.board }
+pub fn lend_up(
+    mut board: Board,
+    header: BmpPerPeerHeader,
+    notification: PeerUpNotification,
+) -> (Result<(), BoardRefusal>, Board)
+    ensures { Upped board header notification result.0 result.1 }
 {
-    let mut lent = board;
-    let number = lent_board::peer_up(&mut lent, header, notification);
-    Updated {
-        number: number,
-        board: lent,
-    }
+    let answer = lent_board::peer_up(&mut board, header, notification);
+    (answer, board)
 }
 
 pub fn lend_down(
-    board: Board,
+    mut board: Board,
     header: BmpPerPeerHeader,
     notification: PeerDownNotification,
-) -> Updated
-    ensures { Downed board header notification result.number result.board }
+) -> (Result<(), BoardRefusal>, Board)
+    ensures { Downed board header notification result.0 result.1 }
 {
-    let mut lent = board;
-    let number = lent_board::peer_down(&mut lent, header, notification);
-    Updated {
-        number: number,
-        board: lent,
-    }
+    let answer = lent_board::peer_down(&mut board, header, notification);
+    (answer, board)
 }
 
-pub fn lend_report(board: Board, header: BmpPerPeerHeader, report: StatsReport) -> Updated
-    ensures { Reported board header report result.number result.board }
+pub fn lend_report(
+    mut board: Board,
+    header: BmpPerPeerHeader,
+    report: StatsReport,
+) -> (Result<(), BoardRefusal>, Board)
+    ensures { Reported board header report result.0 result.1 }
 {
-    let mut lent = board;
-    let number = lent_board::peer_report(&mut lent, header, report);
-    Updated {
-        number: number,
-        board: lent,
-    }
+    let answer = lent_board::peer_report(&mut board, header, report);
+    (answer, board)
 }
 
-pub fn lend_look(board: Board, key: PeerKey) -> Looked
+pub fn lend_look(board: Board, key: PeerKey) -> Result<Option<KeptReport>, BoardRefusal>
     ensures { LookedUp board key result }
 {
-    let lent = board;
-    lent_board::look_up(&lent, key)
+    lent_board::look_up(&board, key)
 }

@@ -6,7 +6,7 @@ use common_header::BmpCommonHeader;
 use initiation_message::{InitiationMessage, InitiationTlv};
 use models::{Afi, Asn, IpAddr};
 use openbmp::OpenBmpHeader;
-use peer_down_notification::{PeerDownData, PeerDownNotification, PeerDownReason};
+use peer_down_notification::{PeerDownNotification, PeerDownReason};
 use peer_up_notification::{PeerUpNotification, PeerUpNotificationTlv};
 use per_peer_record::BmpPerPeerHeader;
 use per_peer_type::{BmpPeerType, PerPeerFlags};
@@ -26,7 +26,7 @@ pub const LONGER: u8 = 1;
 pub const FIRST: u8 = 2;
 
 // A place that lies outside every buffer.
-const OUTSIDE: u32 = 4_294_967_295;
+const OUTSIDE: u32 = u32::MAX;
 
 // One byte more than two bytes can say, and one less than a BGP message has.
 const TOO_LARGE: usize = 65_536;
@@ -69,10 +69,9 @@ pub fn changed_common(before: BmpCommonHeader, change: u8) -> BmpCommonHeader {
 
 pub fn changed_per_peer(before: BmpPerPeerHeader, change: u8) -> BmpPerPeerHeader {
     let mut header = before;
-    let address = before.peer_ip;
     match change {
-        2 => header.peer_ip = with_octet(address, 0),
-        3 => header.peer_ip = of_other_family(address),
+        2 => header.peer_ip = with_octet(before.peer_ip, 0),
+        3 => header.peer_ip = of_other_family(before.peer_ip),
         4 => return of_local_rib(before),
         5 => return with_large_asn(before),
         6 => header.timestamp = NO_TIME,
@@ -82,64 +81,36 @@ pub fn changed_per_peer(before: BmpPerPeerHeader, change: u8) -> BmpPerPeerHeade
 }
 
 // Only an IPv4 address has unused octets.
-fn with_octet(address: IpAddr, place: usize) -> IpAddr {
-    let afi = address.afi;
-    let mut octets = address.octets;
-    if place < 16 {
-        match afi {
-            Afi::Ipv4 => octets[place] = 1,
-            Afi::Ipv6 => {}
-        }
+fn with_octet(before: IpAddr, place: usize) -> IpAddr {
+    let mut address = before;
+    if matches!(address.afi, Afi::Ipv4) && place < 16 {
+        address.octets[place] = 1;
     }
-    IpAddr {
-        octets: octets,
-        afi: afi,
-    }
+    address
 }
 
 fn of_other_family(address: IpAddr) -> IpAddr {
-    let afi = address.afi;
-    let octets = address.octets;
-    match afi {
-        Afi::Ipv4 => IpAddr {
-            octets: octets,
-            afi: Afi::Ipv6,
-        },
-        Afi::Ipv6 => IpAddr {
-            octets: octets,
-            afi: Afi::Ipv4,
-        },
-    }
+    let afi = match address.afi {
+        Afi::Ipv4 => Afi::Ipv6,
+        Afi::Ipv6 => Afi::Ipv4,
+    };
+    IpAddr { afi, ..address }
 }
 
 fn of_local_rib(before: BmpPerPeerHeader) -> BmpPerPeerHeader {
-    let flags = before.peer_flags;
-    let distinguisher = before.peer_distinguisher;
-    let address = before.peer_ip;
-    let asn = before.peer_asn;
-    let bgp_id = before.peer_bgp_id;
     BmpPerPeerHeader {
         peer_type: BmpPeerType::LocalRib,
-        peer_flags: flags,
-        peer_distinguisher: distinguisher,
-        peer_ip: address,
-        peer_asn: asn,
-        peer_bgp_id: bgp_id,
-        timestamp: before.timestamp,
-        seconds: before.seconds,
-        microseconds: before.microseconds,
+        ..before
     }
 }
 
 // Flag 0x20 says that an AS has 16 bits, and this one has more.
 fn with_large_asn(before: BmpPerPeerHeader) -> BmpPerPeerHeader {
-    let mut header = before;
-    let flags = header.peer_flags;
-    let short = PerPeerFlags(flags.0 | 0x20);
-    let asn = Asn(65_536);
-    header.peer_flags = short;
-    header.peer_asn = asn;
-    header
+    BmpPerPeerHeader {
+        peer_flags: PerPeerFlags(before.peer_flags.0 | 0x20),
+        peer_asn: Asn(65_536),
+        ..before
+    }
 }
 
 // ---- OpenBMP
@@ -158,15 +129,12 @@ pub fn changed_openbmp(before: OpenBmpHeader, change: u8) -> OpenBmpHeader {
 
 fn with_changed_parts(before: OpenBmpHeader, change: u8) -> OpenBmpHeader {
     let mut header = before;
-    let address = before.router_ip;
-    let admin = before.admin_id;
-    let group = before.router_group;
     match change {
-        6 => header.router_ip = with_octet(address, 15),
-        7 => header.admin_id = outside(admin),
-        8 => header.router_group = outside(group),
-        9 => header.admin_id = of_length(admin, TOO_LARGE),
-        10 => header.router_group = of_length(group, TOO_LARGE),
+        6 => header.router_ip = with_octet(before.router_ip, 15),
+        7 => header.admin_id = outside(before.admin_id),
+        8 => header.router_group = outside(before.router_group),
+        9 => header.admin_id = of_length(before.admin_id, TOO_LARGE),
+        10 => header.router_group = of_length(before.router_group, TOO_LARGE),
         _ => {}
     }
     header
@@ -175,41 +143,36 @@ fn with_changed_parts(before: OpenBmpHeader, change: u8) -> OpenBmpHeader {
 fn outside(view: View) -> View {
     View {
         place: OUTSIDE as usize,
-        length: view.length,
+        ..view
     }
 }
 
 fn of_length(view: View, length: usize) -> View {
-    View {
-        place: view.place,
-        length: length,
-    }
+    View { length, ..view }
 }
 
 fn longer(view: View) -> View {
-    of_length(view, std::num::wrapping_add_usize(view.length, 1))
+    of_length(view, view.length.wrapping_add(1))
 }
 
 // ---- Statistics
 
 pub fn changed_stats(before: StatsReport, change: u8) -> StatsReport {
     let mut report = before;
-    let first = before.counters[0];
     match change {
         2 => {
             report.count = TOO_MANY_COUNTERS as usize;
             report.stats_count = TOO_MANY_COUNTERS;
         }
-        3 => report.stats_count = std::num::wrapping_add_u32(before.stats_count, 1),
-        _ => report.counters[0] = changed_counter(first, change),
+        3 => report.stats_count = before.stats_count.wrapping_add(1),
+        _ => report.counters[0] = changed_counter(before.counters[0], change),
     }
     report
 }
 
 // What a counter is goes by its length: 4 is a Counter, 11 has an AFI and a SAFI, and what is not 4, 8 or 11 is raw.
 fn changed_counter(before: StatCounter, change: u8) -> StatCounter {
-    let length = before.stat_len;
-    match length {
+    match before.stat_len {
         4 => changed_number(before, change),
         8 => with_unused_family(before, change),
         11 => changed_gauge(before, change),
@@ -246,7 +209,7 @@ fn changed_gauge(before: StatCounter, change: u8) -> StatCounter {
 fn changed_raw(before: StatCounter, change: u8) -> StatCounter {
     let mut counter = with_unused_family(before, change);
     match change {
-        LONGER => counter.stat_len = std::num::wrapping_add_u16(before.stat_len, 1),
+        LONGER => counter.stat_len = before.stat_len.wrapping_add(1),
         8 => counter.value = OUTSIDE as u64,
         _ => {}
     }
@@ -271,7 +234,7 @@ fn raw_value(place: u32, length: u16) -> StatsData {
 
 pub fn length_apart(counter: StatCounter, trial: u8) -> u16 {
     match trial {
-        2 => std::num::wrapping_add_u16(counter.stat_len, 1),
+        2 => counter.stat_len.wrapping_add(1),
         _ => counter.stat_len,
     }
 }
@@ -280,11 +243,10 @@ pub fn length_apart(counter: StatCounter, trial: u8) -> u16 {
 
 pub fn changed_initiation(before: InitiationMessage, change: u8) -> InitiationMessage {
     let mut message = before;
-    let first = message.tlvs[0];
     match change {
         2 => message.count = TOO_MANY_TLVS,
         4 => return with_empty_last(before),
-        _ => message.tlvs[0] = changed_initiation_tlv(first, change),
+        _ => message.tlvs[0] = changed_initiation_tlv(before.tlvs[0], change),
     }
     message
 }
@@ -292,7 +254,7 @@ pub fn changed_initiation(before: InitiationMessage, change: u8) -> InitiationMe
 fn changed_initiation_tlv(before: InitiationTlv, change: u8) -> InitiationTlv {
     let mut tlv = before;
     match change {
-        LONGER => tlv.info_len = std::num::wrapping_add_u16(before.info_len, 1),
+        LONGER => tlv.info_len = before.info_len.wrapping_add(1),
         3 => tlv.place = OUTSIDE,
         _ => {}
     }
@@ -301,11 +263,8 @@ fn changed_initiation_tlv(before: InitiationTlv, change: u8) -> InitiationTlv {
 
 fn with_empty_last(before: InitiationMessage) -> InitiationMessage {
     let mut message = before;
-    let last = std::num::wrapping_sub_usize(message.count, 1);
-    if last < wire::TLV_PLACES {
-        let mut tlv = message.tlvs[last];
-        tlv.info_len = 0;
-        message.tlvs[last] = tlv;
+    if let Some(last) = message.tlvs.get_mut(before.count.wrapping_sub(1)) {
+        last.info_len = 0;
     }
     message
 }
@@ -314,11 +273,10 @@ fn with_empty_last(before: InitiationMessage) -> InitiationMessage {
 
 pub fn changed_termination(before: TerminationMessage, change: u8) -> TerminationMessage {
     let mut message = before;
-    let first = message.tlvs[0];
     match change {
         2 => message.count = TOO_MANY_TLVS,
         5 => return with_changed_last(before),
-        _ => message.tlvs[0] = changed_termination_tlv(first, change),
+        _ => message.tlvs[0] = changed_termination_tlv(before.tlvs[0], change),
     }
     message
 }
@@ -339,7 +297,7 @@ fn changed_termination_tlv(before: TerminationTlv, change: u8) -> TerminationTlv
 fn changed_string(before: TerminationTlv, change: u8) -> TerminationTlv {
     let mut tlv = before;
     match change {
-        LONGER => tlv.info_len = std::num::wrapping_add_u16(before.info_len, 1),
+        LONGER => tlv.info_len = before.info_len.wrapping_add(1),
         4 => tlv.number = OUTSIDE,
         5 => tlv.info_len = 0,
         _ => {}
@@ -360,10 +318,8 @@ fn changed_reason(before: TerminationTlv, change: u8) -> TerminationTlv {
 // The one change that is of the last TLV.
 fn with_changed_last(before: TerminationMessage) -> TerminationMessage {
     let mut message = before;
-    let last = std::num::wrapping_sub_usize(message.count, 1);
-    if last < wire::TLV_PLACES {
-        let tlv = message.tlvs[last];
-        message.tlvs[last] = changed_termination_tlv(tlv, 5);
+    if let Some(last) = message.tlvs.get_mut(before.count.wrapping_sub(1)) {
+        *last = changed_termination_tlv(*last, 5);
     }
     message
 }
@@ -372,10 +328,9 @@ fn with_changed_last(before: TerminationMessage) -> TerminationMessage {
 
 pub fn changed_mirroring(before: RouteMirroring, change: u8) -> RouteMirroring {
     let mut message = before;
-    let first = message.tlvs[0];
     match change {
         2 => message.count = TOO_MANY_TLVS,
-        _ => message.tlvs[0] = changed_mirroring_tlv(first, change),
+        _ => message.tlvs[0] = changed_mirroring_tlv(before.tlvs[0], change),
     }
     message
 }
@@ -396,7 +351,7 @@ fn changed_mirroring_tlv(before: RouteMirroringTlv, change: u8) -> RouteMirrorin
 fn changed_mirrored_message(before: RouteMirroringTlv, change: u8) -> RouteMirroringTlv {
     let mut tlv = before;
     match change {
-        LONGER => tlv.info_len = std::num::wrapping_add_u16(before.info_len, 1),
+        LONGER => tlv.info_len = before.info_len.wrapping_add(1),
         4 => tlv.info_len = TOO_SHORT,
         5 => tlv.number = OUTSIDE,
         _ => {}
@@ -418,13 +373,10 @@ fn changed_information(before: RouteMirroringTlv, change: u8) -> RouteMirroringT
 
 pub fn changed_peer_up(before: PeerUpNotification, change: u8) -> PeerUpNotification {
     let mut message = before;
-    let address = before.local_addr;
-    let sent = before.sent_open;
-    let received = before.received_open;
     match change {
-        2 => message.local_addr = with_octet(address, 0),
-        3 | 4 | 5 | 6 => message.sent_open = changed_open(sent, change),
-        7 | 8 | 9 | 10 => message.received_open = changed_open(received, change),
+        2 => message.local_addr = with_octet(before.local_addr, 0),
+        3..=6 => message.sent_open = changed_open(before.sent_open, change),
+        7..=10 => message.received_open = changed_open(before.received_open, change),
         _ => return with_changed_tlvs(before, change),
     }
     message
@@ -441,10 +393,9 @@ fn changed_open(view: View, change: u8) -> View {
 
 fn with_changed_tlvs(before: PeerUpNotification, change: u8) -> PeerUpNotification {
     let mut message = before;
-    let first = message.tlvs[0];
     match change {
         11 => message.count = TOO_MANY_TLVS,
-        _ => message.tlvs[0] = changed_peer_up_tlv(first, change),
+        _ => message.tlvs[0] = changed_peer_up_tlv(before.tlvs[0], change),
     }
     message
 }
@@ -452,7 +403,7 @@ fn with_changed_tlvs(before: PeerUpNotification, change: u8) -> PeerUpNotificati
 fn changed_peer_up_tlv(before: PeerUpNotificationTlv, change: u8) -> PeerUpNotificationTlv {
     let mut tlv = before;
     match change {
-        LONGER => tlv.info_len = std::num::wrapping_add_u16(before.info_len, 1),
+        LONGER => tlv.info_len = before.info_len.wrapping_add(1),
         12 => tlv.place = OUTSIDE,
         _ => {}
     }
@@ -462,12 +413,10 @@ fn changed_peer_up_tlv(before: PeerUpNotificationTlv, change: u8) -> PeerUpNotif
 // ---- Peer Down
 
 pub fn changed_peer_down(before: PeerDownNotification, change: u8) -> PeerDownNotification {
-    let reason = before.reason;
-    let data = before.data;
-    match data {
-        PeerDownData::Absent => before,
-        PeerDownData::Present(view) => PeerDownNotification {
-            reason: given_reason(reason, change),
+    match before.data {
+        None => before,
+        Some(view) => PeerDownNotification {
+            reason: given_reason(before.reason, change),
             data: changed_data(view, change),
         },
     }
@@ -480,13 +429,13 @@ fn given_reason(before: PeerDownReason, change: u8) -> PeerDownReason {
     }
 }
 
-fn changed_data(view: View, change: u8) -> PeerDownData {
+fn changed_data(view: View, change: u8) -> Option<View> {
     match change {
-        LONGER => PeerDownData::Present(longer(view)),
-        3 => PeerDownData::Absent,
-        4 => PeerDownData::Present(of_length(view, 0)),
-        5 => PeerDownData::Present(outside(view)),
-        _ => PeerDownData::Present(view),
+        LONGER => Some(longer(view)),
+        3 => None,
+        4 => Some(of_length(view, 0)),
+        5 => Some(outside(view)),
+        _ => Some(view),
     }
 }
 
@@ -494,11 +443,10 @@ fn changed_data(view: View, change: u8) -> PeerDownData {
 
 pub fn changed_monitoring(before: RouteMonitoring, change: u8) -> RouteMonitoring {
     let mut message = before;
-    let view = before.bgp_message;
     match change {
-        LONGER => message.bgp_message = longer(view),
-        2 => message.bgp_message = outside(view),
-        3 => message.bgp_message = of_length(view, TOO_SHORT as usize),
+        LONGER => message.bgp_message = longer(before.bgp_message),
+        2 => message.bgp_message = outside(before.bgp_message),
+        3 => message.bgp_message = of_length(before.bgp_message, TOO_SHORT as usize),
         _ => {}
     }
     message

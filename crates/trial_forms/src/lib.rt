@@ -55,141 +55,137 @@ pub struct Arguments {
     pub peer_type: BmpPeerType,
 }
 
-// The number of a form, the numbers that go into it, and how many entries of a table follow it.
+// What an answer or an entry is printed by: a text with marks.
+#[derive(Clone, Copy)]
+pub enum Form {
+    Refused,
+    Cut,
+    BadLine,
+    Written,
+    YesYes,
+    YesNo,
+    NoYes,
+    NoNo,
+    Common,
+    Split,
+    Skipped,
+    TimelessPeer,
+    TimedPeer,
+    OpenBmp,
+    PeerDown,
+    PeerDownData,
+    Monitoring,
+    PeerUp,
+    Stats,
+    Tlvs,
+    Counter,
+    Gauge,
+    AfiSafiGauge,
+    Raw,
+    NamedTlv,
+    UnknownTlv,
+    String,
+    Reason,
+    BgpMessage,
+    Information,
+    TableEnd,
+    Nothing,
+    Done,
+    NoneYet,
+    Report,
+    Peers,
+    Peer,
+}
+
+impl Form {
+    // Is it that of a refusal?
+    pub fn is_refusal(self) -> bool {
+        matches!(self, Form::Refused | Form::Cut)
+    }
+
+    // Does a record's table follow it, entry by entry, and then its end?
+    pub fn begins_table(self) -> bool {
+        matches!(self, Form::PeerUp | Form::Stats | Form::Tlvs)
+    }
+
+    fn text(self) -> &'static [u8] {
+        match self {
+            Form::Refused => b"refused # at #\n",
+            Form::Cut => b"refused # at # missing #\n",
+            Form::BadLine => b"bad line\n",
+            Form::Written => b"written # $\n",
+            Form::YesYes => b"yes yes\n",
+            Form::YesNo => b"yes no\n",
+            Form::NoYes => b"no yes\n",
+            Form::NoNo => b"no no\n",
+            Form::Common => b"good stop=# tail=# warn=0 version=# length=# type=#\n",
+            Form::Split => b"good stop=# tail=# warn=0 length=# type=#\n",
+            Form::Skipped => b"skipped stop=# tail=# warn=0 length=# type=#\n",
+            Form::TimelessPeer =>
+                b"good stop=# tail=# warn=# type=# flags=% dist=@ fam=# addr=@@ as=# asbits=# id=& sec=# usec=# ts=@ time=none\n",
+            Form::TimedPeer =>
+                b"good stop=# tail=# warn=# type=# flags=% dist=@ fam=# addr=@@ as=# asbits=# id=& sec=# usec=# ts=@ time=some\n",
+            Form::OpenBmp =>
+                b"good stop=# tail=# warn=0 hlen=# mlen=# sec=# usec=# ts=@ admin=$ fam=# router=@@ group=$\n",
+            Form::PeerDown => b"good stop=# tail=# warn=0 reason=# data=none\n",
+            Form::PeerDownData => b"good stop=# tail=# warn=0 reason=# data=some:$\n",
+            Form::Monitoring => b"good stop=# tail=# warn=# bgp=$\n",
+            Form::PeerUp =>
+                b"good stop=# tail=# warn=# fam=# local=@@ lport=# rport=# sent=$ received=$ tlvs=[",
+            Form::Stats => b"good stop=# tail=# warn=0 count=# counters=[",
+            Form::Tlvs => b"good stop=# tail=# warn=0 tlvs=[",
+            Form::Done => b"ok\n",
+            Form::NoneYet => b"none yet\n",
+            Form::Report => b"report count=# counters=[",
+            Form::Peers => b"count=# peers=[",
+            _ => self.entry_text(),
+        }
+    }
+
+    // An entry begins with a comma, but for the first of a table.
+    fn entry_text(self) -> &'static [u8] {
+        match self {
+            Form::Counter => b",#:#:!:C#",
+            Form::Gauge => b",#:#:!:G#",
+            Form::AfiSafiGauge => b",#:#:!:A#/#/#",
+            Form::Raw => b",#:#:!:R$",
+            Form::NamedTlv => b",#:#:N:$",
+            Form::UnknownTlv => b",#:#:U:$",
+            Form::String => b",0:#:$",
+            Form::Reason => b",1:#:reason#",
+            Form::BgpMessage => b",0:#:bgp$",
+            Form::Information => b",1:#:info#",
+            Form::TableEnd => b"]\n",
+            Form::Peer => b",#/#/@/@@/&",
+            _ => b"",
+        }
+    }
+}
+
+// A form, the numbers that go into it, and how many entries of a table follow it.
 #[derive(Clone, Copy)]
 pub struct Shown {
-    pub form: usize,
+    pub form: Form,
     pub count: usize,
     pub numbers: [u64; 16],
 }
 
 // A form with five numbers; where it has fewer marks, the last ones have no say.
-pub fn of_five(form: usize, count: usize, a: u64, b: u64, c: u64, d: u64, e: u64) -> Shown
+pub fn of_five(form: Form, count: usize, a: u64, b: u64, c: u64, d: u64, e: u64) -> Shown
     ensures { result ≡ of_five form count a b c d e }
 {
     Shown {
-        form: form,
-        count: count,
+        form,
+        count,
         numbers: [a, b, c, d, e, 0, 0, 0, 0, 0, 0, 0, 0, 0, 0, 0],
     }
 }
 
-// The numbers of the forms. The first two are refusals. The three from PEER_UP on begin a table, whose entries follow, and then TABLE_END; those from OK on
-// are a board's, of which two begin a table as well.
-pub const REFUSED: usize = 0;
-
-pub const CUT: usize = 1;
-
-pub const BAD_LINE: usize = 2;
-
-pub const WRITTEN: usize = 3;
-
-pub const YES_YES: usize = 4;
-
-pub const YES_NO: usize = 5;
-
-pub const NO_YES: usize = 6;
-
-pub const NO_NO: usize = 7;
-
-pub const COMMON: usize = 8;
-
-pub const SPLIT: usize = 9;
-
-pub const SKIPPED: usize = 10;
-
-pub const TIMELESS_PEER: usize = 11;
-
-pub const TIMED_PEER: usize = 12;
-
-pub const OPENBMP: usize = 13;
-
-pub const PEER_DOWN: usize = 14;
-
-pub const PEER_DOWN_DATA: usize = 15;
-
-pub const MONITORING: usize = 16;
-
-pub const PEER_UP: usize = 17;
-
-pub const STATS: usize = 18;
-
-pub const TLVS: usize = 19;
-
-pub const COUNTER: usize = 20;
-
-pub const GAUGE: usize = 21;
-
-pub const AFI_SAFI_GAUGE: usize = 22;
-
-pub const RAW: usize = 23;
-
-pub const NAMED_TLV: usize = 24;
-
-pub const UNKNOWN_TLV: usize = 25;
-
-pub const STRING: usize = 26;
-
-pub const REASON: usize = 27;
-
-pub const BGP_MESSAGE: usize = 28;
-
-pub const INFORMATION: usize = 29;
-
-pub const TABLE_END: usize = 30;
-
-pub const NOTHING: usize = 31;
-
-pub const OK: usize = 32;
-
-pub const NONE_YET: usize = 33;
-
-pub const REPORT: usize = 34;
-
-pub const PEERS: usize = 35;
-
-pub const PEER: usize = 36;
-
-// Puts an answer or an entry by its form. The forms stand in the order of their numbers, and each ends at a bar.
+// Puts an answer or an entry by its form.
 pub fn put(out: &mut [u8], at: usize, shown: Shown, body: &[u8]) -> usize {
-    let forms = b"refused # at #\n|\
-        refused # at # missing #\n|\
-        bad line\n|\
-        written # $\n|\
-        yes yes\n|\
-        yes no\n|\
-        no yes\n|\
-        no no\n|\
-        good stop=# tail=# warn=0 version=# length=# type=#\n|\
-        good stop=# tail=# warn=0 length=# type=#\n|\
-        skipped stop=# tail=# warn=0 length=# type=#\n|\
-        good stop=# tail=# warn=# type=# flags=% dist=@ fam=# addr=@@ as=# asbits=# id=& sec=# usec=# ts=@ time=none\n|\
-        good stop=# tail=# warn=# type=# flags=% dist=@ fam=# addr=@@ as=# asbits=# id=& sec=# usec=# ts=@ time=some\n|\
-        good stop=# tail=# warn=0 hlen=# mlen=# sec=# usec=# ts=@ admin=$ fam=# router=@@ group=$\n|\
-        good stop=# tail=# warn=0 reason=# data=none\n|\
-        good stop=# tail=# warn=0 reason=# data=some:$\n|\
-        good stop=# tail=# warn=# bgp=$\n|\
-        good stop=# tail=# warn=# fam=# local=@@ lport=# rport=# sent=$ received=$ tlvs=[|\
-        good stop=# tail=# warn=0 count=# counters=[|\
-        good stop=# tail=# warn=0 tlvs=[|\
-        ,#:#:!:C#|\
-        ,#:#:!:G#|\
-        ,#:#:!:A#/#/#|\
-        ,#:#:!:R$|\
-        ,#:#:N:$|\
-        ,#:#:U:$|\
-        ,0:#:$|\
-        ,1:#:reason#|\
-        ,0:#:bgp$|\
-        ,1:#:info#|\
-        ]\n|\
-        |\
-        ok\n|\
-        none yet\n|\
-        report count=# counters=[|\
-        count=# peers=[|\
-        ,#/#/@/@@/&|";
-    put_shown(out, at, forms, shown, body)
+    let form = shown.form;
+    let numbers = shown.numbers;
+    put_shown(out, at, form.text(), &numbers, body)
 }
 
 // A good answer, or the refusal in its place.
@@ -203,7 +199,7 @@ pub fn judged(refusal: Refusal, shown: Shown) -> Shown
 }
 
 // A form without numbers.
-pub fn bare(form: usize) -> Shown
+pub fn bare(form: Form) -> Shown
     ensures { result ≡ bare form }
 {
     of_five(form, 0, 0, 0, 0, 0, 0)
@@ -224,62 +220,28 @@ pub fn refused(refusal: Refusal) -> Shown
 }
 
 // A Cut alone says what is missing.
-fn refused_form(number: u8) -> usize
+fn refused_form(number: u8) -> Form
     ensures { result ≡ refused_form number }
 {
-    if number == wire::CUT { CUT } else { REFUSED }
-}
-
-// Puts one of a text's forms, each of which ends at a bar.
-pub fn put_shown(out: &mut [u8], at: usize, forms: &[u8], shown: Shown, body: &[u8]) -> usize {
-    let form = form_at(forms, shown.form);
-    let numbers = shown.numbers;
-    put_form(out, at, form.part(forms), &numbers, body)
-}
-
-fn form_at(forms: &[u8], number: usize) -> View {
-    let mut start: usize = 0;
-    let mut i: usize = 0;
-    while i < number {
-        start = std::num::wrapping_add_usize(bar_from(forms, start), 1);
-        i += 1;
-    }
-    View {
-        place: start,
-        length: bar_from(forms, start) - start,
+    if number == wire::CUT {
+        Form::Cut
+    } else {
+        Form::Refused
     }
 }
 
-// The first bar from a place on; the end of the text, or the place itself, where there is none.
-fn bar_from(forms: &[u8], at: usize) -> usize
-    ensures { at ≤ result }
-{
-    let mut i = at;
-    while i < forms.len() {
-        if forms[i] == b'|' {
-            return i;
-        }
-        i += 1;
-    }
-    i
-}
-
-fn put_form(out: &mut [u8], at: usize, form: &[u8], numbers: &[u64], body: &[u8]) -> usize {
+// Puts a text in which each mark takes the next of the numbers, or 0 where none is left.
+pub fn put_shown(out: &mut [u8], at: usize, form: &[u8], numbers: &[u64], body: &[u8]) -> usize {
     let mut next = at;
-    let mut taken: usize = 0;
-    let mut i: usize = 0;
-    while i < form.len() {
-        let mark = form[i];
-        next = put_piece(out, next, mark, numbers, taken, body);
-        taken += takes(mark);
-        i += 1;
+    let mut rest = numbers;
+    for mark in form {
+        next = put_piece(out, next, *mark, rest, body);
+        rest = rest.get(takes(*mark)..).unwrap_or(&[]);
     }
     next
 }
 
-fn takes(mark: u8) -> usize
-    ensures { result ≤ 2 }
-{
+fn takes(mark: u8) -> usize {
     match mark {
         b'#' | b'%' | b'&' | b'@' | b'!' | b',' => 1,
         b'$' => 2,
@@ -287,32 +249,18 @@ fn takes(mark: u8) -> usize
     }
 }
 
-fn put_piece(
-    out: &mut [u8],
-    at: usize,
-    mark: u8,
-    numbers: &[u64],
-    taken: usize,
-    body: &[u8],
-) -> usize {
-    let n = number_at(numbers, taken);
+fn put_piece(out: &mut [u8], at: usize, mark: u8, numbers: &[u64], body: &[u8]) -> usize {
+    let n = numbers.first().copied().unwrap_or(0);
     match mark {
         b'#' => put_decimal(out, at, n),
         b'%' => put_hex_number(out, at, n, 7),
         b'&' => put_hex_number(out, at, n, 4),
         b'@' => put_hex_number(out, at, n, 0),
-        b'$' => put_part(out, at, body, n, numbers, taken),
+        b'$' => put_part(out, at, body, numbers),
         b',' => put_comma(out, at, n),
         b'!' => put_byte(out, at, n),
         _ => put_byte(out, at, mark as u64),
     }
-}
-
-fn number_at(numbers: &[u64], i: usize) -> u64 {
-    if i < numbers.len() {
-        return numbers[i];
-    }
-    0
 }
 
 fn put_byte(out: &mut [u8], at: usize, n: u64) -> usize {
@@ -331,25 +279,18 @@ fn put_comma(out: &mut [u8], at: usize, n: u64) -> usize {
 fn put_hex_number(out: &mut [u8], at: usize, n: u64, from: usize) -> usize
     requires { from ≤ 8 }
 {
-    let mut bytes = [0u8; 8];
-    numbers_writer::put_u64(&mut bytes, 0, n);
-    put_hex(out, at, &bytes[from..8])
+    let bytes = n.to_be_bytes();
+    put_hex(out, at, &bytes[from..])
 }
 
-fn put_part(
-    out: &mut [u8],
-    at: usize,
-    body: &[u8],
-    place: u64,
-    numbers: &[u64],
-    taken: usize,
-) -> usize {
-    if numbers.len() <= taken {
+// The part of a body that the next two numbers show.
+fn put_part(out: &mut [u8], at: usize, body: &[u8], numbers: &[u64]) -> usize {
+    let [place, length, ..] = numbers else {
         return at;
-    }
+    };
     let part = View {
-        place: place as usize,
-        length: number_at(numbers, taken + 1) as usize,
+        place: *place as usize,
+        length: *length as usize,
     };
     put_hex(out, at, part.part(body))
 }
@@ -373,12 +314,9 @@ fn put_hex(out: &mut [u8], at: usize, bytes: &[u8]) -> usize
     if wire::left(out, at) / 2 < bytes.len() {
         return at;
     }
-    let mut i: usize = 0;
-    while i < bytes.len() {
-        let byte = bytes[i];
-        out[at + 2 * i] = hex_digit(byte / 16);
-        out[at + 2 * i + 1] = hex_digit(byte % 16);
-        i += 1;
+    for (i, byte) in bytes.iter().enumerate() {
+        out[at + 2 * i] = hex_digit(*byte / 16);
+        out[at + 2 * i + 1] = hex_digit(*byte % 16);
     }
     at + 2 * bytes.len()
 }

@@ -1,55 +1,55 @@
 -- Places, digits, numbers and parts, byte by byte. Assumes nothing.
-use mathlib.Core.Path.{◌≡◌, refl, sym, ap, ◌∙◌}
-use mathlib.Core.Bool.{Bool, true, false}
-use mathlib.Core.List.{List, [], ◌∷◌}
-use Prim.Native.Nat.{ℕ, zero, suc, ◌+◌, ◌-◌, ◌*◌, ◌/◌, ◌%◌, ◌≤◌, ◌<◌}
-use native.Mathlib.Omega.{arith}
+use Rattle.std.proofs.Common.{◌≡◌, refl, sym, ap, ◌∙◌, Bool, true, false, not, cond, ◌&&◌, List, [], ◌∷◌, ℕ, zero, suc, ◌+◌, ◌-◌, ◌*◌, ◌/◌, ◌%◌, ◌≤◌, ◌<◌, eqb, ltb, length, take, drop, get_or, set, arith, add-one, length-drop, drop_of_length-le, drop-cons}
+use Rattle.std.specs.List.{position, position_or_len, list_all, slice_split, onto_first}
+use Rattle.std.specs.Option.{unwrap_or}
+use Rattle.std.proofs.lemmas.List.Recursion.{is_position_or_len}
 use native.Mathlib.Nat.{mul-le-mul_right}
-use native.Mathlib.Numerals.{add-one}
-use borrow.Author.Tests.{lt-ltb, le-ltb, le-leb, lt-leb, eq-eqb, ne_eqb, eqb-false, ltb-true, ltb-false}
-use lib.ListN.{length, take, drop, get_or, set, drop_of_length-le, length-drop}
-use lib.Seq.{drop-cons, drop-drop, take_all, sets, length-take-le}
+use borrow.Author.Tests.{lt-ltb, le-ltb, eq-eqb, ne_eqb, eqb-false, ltb-true, ltb-false}
+use lib.Seq.{take_all, sets}
+use Rattle.std.specs.declared.option.Option.{Option}
+use Rattle.std.specs.declared.option.Option.TheVariants.{Some, None}
 use Rattle.writing.proofs.Sets.{sets_append}
-use lib.Dec.{eqb, leb, ltb}
 use Rattle.wire.specs.Bytes.{pick}
-use Rattle.trial_hex.specs.Hex.{place_of, digit_value, all_digits, are_digits, byte_at, repeated, with_digit, times_from, part_times, part_digits, part_length, part_bytes, first_part, onto, parts, measured, all_bytes, is_hyphen, unhexed, buffer_with, text_bytes, unhexed_into}
-use Rattle.trial_hex.specs.declared.Unhexed.{Unhexed}
-use Rattle.trial_hex.specs.declared.Unhexed.TheVariants.{Bytes, Bad}
+use Rattle.trial_hex.specs.Hex.{place_of, digit_value, all_digits, are_digits, byte_at, repeated, with_digit, times_from, part_times, part_digits, part_length, part_bytes, onto, parts, measured, all_bytes, is_hyphen, Unhexed, unhexed, buffer_with, text_bytes, unhexed_into}
 
--- ---- the first byte of a kind
-pub place_here : (b : ℕ) (s : List ℕ) (i : ℕ) → i < length s → get_or s i 0 ≡ b → place_of b (drop i s) ≡ 0
-unfolding place_of
-place_here b s i h e = rw (drop-cons s i 0 h, eq-eqb (get_or s i 0) b e)
-
-pub place_more : (b : ℕ) (s : List ℕ) (i : ℕ) → i < length s → (get_or s i 0 ≡ b → ⊥) → place_of b (drop i s) ≡ suc (place_of b (drop (i + 1) s))
-unfolding place_of
-place_more b s i h other = rw (add-one i, drop-cons s i 0 h, ne_eqb (get_or s i 0) b other)
-
-pub place_none : (b : ℕ) (s : List ℕ) (i : ℕ) → length s ≤ i → place_of b (drop i s) ≡ 0
-unfolding place_of
-place_none b s i end = rw (drop_of_length-le s end)
-
-pub place_within : (b : ℕ) (s : List ℕ) → place_of b s ≤ length s
-unfolding place_of
-place_within b [] = omega arith
-place_within b (a ∷ l) = go (eqb a b) (place_within b l)
+-- ---- the first element that passes, or the length where `position` finds none
+pub first_within : {A : Type 0} (p : A → Bool) (s : List A) → position_or_len p s ≤ length s
+first_within p [] = omega arith
+first_within p (a ∷ l) = go (p a) (first_within p l)
   where
-    go : (c : Bool) → place_of b l ≤ length l → pick c 0 (suc (place_of b l)) ≤ length (a ∷ l)
+    go : (c : Bool) → position_or_len p l ≤ length l → cond (not c) (1 + position_or_len p l) 0 ≤ length (a ∷ l)
     go true h = omega arith
     go false h = omega (arith, h)
 
+pub first_found : {A : Type 0} (p : A → Bool) (s : List A) (r : Option ℕ) → r ≡ position p s → unwrap_or r (length s) ≡ position_or_len p s
+first_found p s r e = rw e (go (ltb (position_or_len p s) (length s)) refl)
+  where
+    go : (c : Bool) → ltb (position_or_len p s) (length s) ≡ c
+        → unwrap_or (cond c (Some (position_or_len p s)) None) (length s) ≡ position_or_len p s
+    go true k = refl
+    go false k = let most = ltb-false (position_or_len p s) (length s) k in omega (arith, first_within p s)
+
+pub place_is : (b : ℕ) (s : List ℕ) → place_of b s ≡ position_or_len (λ a. eqb a b) s
+unfolding place_of
+place_is b s = is_position_or_len (place_of b) (λ a. eqb a b) refl (λ a l. step (eqb a b) (place_of b l)) s
+  where
+    step : (c : Bool) (n : ℕ) → pick c 0 (suc n) ≡ cond c 0 (1 + n)
+    step true n = refl
+    step false n = omega arith
+
+pub place_within : (b : ℕ) (s : List ℕ) → place_of b s ≤ length s
+place_within b s = rw (place_is b s) (first_within (λ a. eqb a b) s)
+
 -- ---- digits
-pub digits_bad : (s : List ℕ) (i : ℕ) → i < length s → 15 < digit_value (get_or s i 0) → all_digits (drop i s) ≡ false
+pub digits_all : (s : List ℕ) → list_all (λ d. ltb (digit_value d) 16) s ≡ all_digits s
 unfolding all_digits
-digits_bad s i h bad = rw (drop-cons s i 0 h, lt-ltb 15 (digit_value (get_or s i 0)) bad)
-
-pub digits_more : (s : List ℕ) (i : ℕ) → i < length s → digit_value (get_or s i 0) ≤ 15 → all_digits (drop i s) ≡ all_digits (drop (i + 1) s)
-unfolding all_digits
-digits_more s i h good = rw (add-one i, drop-cons s i 0 h, le-ltb 15 (digit_value (get_or s i 0)) good)
-
-pub digits_done : (s : List ℕ) (i : ℕ) → length s ≤ i → all_digits (drop i s) ≡ true
-unfolding all_digits
-digits_done s i end = rw (drop_of_length-le s end)
+digits_all [] = refl
+digits_all (a ∷ l) = go (ltb 15 (digit_value a)) refl (digits_all l)
+  where
+    go : (c : Bool) → ltb 15 (digit_value a) ≡ c → list_all (λ d. ltb (digit_value d) 16) l ≡ all_digits l
+        → (ltb (digit_value a) 16 && list_all (λ d. ltb (digit_value d) 16) l) ≡ pick c false (all_digits l)
+    go true k e = rw (le-ltb (digit_value a) 16 (ltb-true 15 (digit_value a) k))
+    go false k e = rw (lt-ltb (digit_value a) 16 (omega (arith, ltb-false 15 (digit_value a) k))) e
 
 -- ---- a number
 module _ (s : List ℕ) (i n m : ℕ) (h : i < length s) (is : m ≡ with_digit n (digit_value (get_or s i 0))) where
@@ -97,75 +97,37 @@ has_digits p h =
 pub bytes_long : (p : List ℕ) → length (part_bytes p) ≡ part_length p
 bytes_long p = length_repeated (part_digits p) 0 (part_length p)
 
--- ---- the parts from a place on
-abbrev pub parts_from : List ℕ → ℕ → List (List ℕ)
-parts_from t from = pick (leb from (length t)) (parts (drop from t)) []
+-- ---- the parts are what stands between the pluses
+abbrev pub is_plus : ℕ → Bool
+is_plus b = eqb b 43
 
--- those behind the first plus
-unfoldable behind : List ℕ → List (List ℕ)
-behind [] = []
-behind (a ∷ l) = pick (eqb a 43) (parts l) (behind l)
-
-parts_first : (t : List ℕ) → parts t ≡ first_part t ∷ behind t
-unfolding parts place_of behind
-parts_first [] = refl
-parts_first (a ∷ l) = go (eqb a 43) (parts_first l)
+parts_are : (t : List ℕ) → parts t ≡ slice_split is_plus t
+unfolding parts
+parts_are [] = refl
+parts_are (a ∷ l) = go (eqb a 43) (parts l) (slice_split is_plus l) (parts_are l)
   where
-    go : (c : Bool) → parts l ≡ first_part l ∷ behind l
-        → pick c ([] ∷ parts l) (onto a (parts l)) ≡ take (pick c 0 (suc (place_of 43 l))) (a ∷ l) ∷ pick c (parts l) (behind l)
-    go true e = refl
-    go false e = ap (onto a) e
+    same : (q : List (List ℕ)) → onto a q ≡ onto_first a q
+    same [] = refl
+    same (p ∷ q) = refl
 
-behind_more : (t : List ℕ) → place_of 43 t < length t → behind t ≡ parts (drop (place_of 43 t + 1) t)
-unfolding place_of behind
-behind_more [] h = absurd (omega arith)
-behind_more (a ∷ l) h = go (eqb a 43) (behind_more l) h
-  where
-    go : (c : Bool) → (place_of 43 l < length l → behind l ≡ parts (drop (place_of 43 l + 1) l)) → pick c 0 (suc (place_of 43 l)) < length (a ∷ l)
-        → pick c (parts l) (behind l) ≡ parts (drop (pick c 0 (suc (place_of 43 l)) + 1) (a ∷ l))
-    go true e k = refl
-    go false e k = e (omega (arith, k)) ∙ rw (add-one (place_of 43 l), add-one (suc (place_of 43 l)))
+    go : (c : Bool) (p q : List (List ℕ)) → p ≡ q → pick c ([] ∷ p) (onto a p) ≡ cond c ([] ∷ q) (onto_first a q)
+    go true p q e = ap (λ (x : List (List ℕ)). [] ∷ x) e
+    go false p q e = ap (onto a) e ∙ same q
 
-behind_none : (t : List ℕ) → length t ≤ place_of 43 t → behind t ≡ []
-unfolding place_of behind
-behind_none [] h = refl
-behind_none (a ∷ l) h = go (eqb a 43) (behind_none l) h
-  where
-    go : (c : Bool) → (length l ≤ place_of 43 l → behind l ≡ []) → length (a ∷ l) ≤ pick c 0 (suc (place_of 43 l)) → pick c (parts l) (behind l) ≡ []
-    go true e k = absurd (omega (arith, k))
-    go false e k = e (omega (arith, k))
+pub part_here : (t part : List ℕ) (k : ℕ) → (k < length (slice_split is_plus t)) × (part ≡ get_or (slice_split is_plus t) k part)
+    → drop k (parts t) ≡ part ∷ drop (k + 1) (parts t)
+part_here t part k h = rw (parts_are t, add-one k, drop-cons (slice_split is_plus t) k part h.0, sym h.1)
 
-pub parts_turn : (t part : List ℕ) (from : ℕ) → from ≤ length t → part ≡ first_part (drop from t) → parts_from t from ≡ part ∷ parts_from t (from + (length part + 1))
-parts_turn t part from h is =
-    rw (le-leb from (length t) h, parts_first (drop from t), is, long) (ap (λ (l : List (List ℕ)). first_part (drop from t) ∷ l) (go (ltb end (length (drop from t))) refl))
-  where
-    end : ℕ
-    end = place_of 43 (drop from t)
-
-    long : length (first_part (drop from t)) ≡ end
-    long = length-take-le end (drop from t) (place_within 43 (drop from t))
-
-    go : (b : Bool) → ltb end (length (drop from t)) ≡ b → behind (drop from t) ≡ parts_from t (from + (end + 1))
-    go true e =
-        let more = ltb-true end (length (drop from t)) e in
-        behind_more (drop from t) more ∙ rw (le-leb (from + (end + 1)) (length t) (omega (arith, more, length-drop from t)), drop-drop (end + 1) from t)
-    go false e =
-        let none = ltb-false end (length (drop from t)) e in
-        behind_none (drop from t) none ∙ rw (lt-leb (from + (end + 1)) (length t) (omega (arith, none, h, length-drop from t)))
-
-pub parts_start : (t : List ℕ) → parts t ≡ parts_from t 0
-parts_start t = rw (le-leb 0 (length t) (omega arith))
-
-pub parts_end : (t : List ℕ) (from : ℕ) → length t < from → parts_from t from ≡ []
-parts_end t from h = rw (lt-leb from (length t) h)
+pub no_more : (t : List ℕ) (k : ℕ) → k ≡ length (slice_split is_plus t) → drop k (parts t) ≡ []
+no_more t k e = rw (parts_are t) (drop_of_length-le (slice_split is_plus t) (omega arith))
 
 -- ---- measuring one part
 module _ (room n k : ℕ) (p : List ℕ) (l : List (List ℕ)) (is : k ≡ part_length p) where
-  pub no_part : k ≡ 0 → measured room n (p ∷ l) ≡ Bad
+  pub no_part : k ≡ 0 → measured room n (p ∷ l) ≡ None
   unfolding measured
   no_part e = rw (eq-eqb (part_length p) 0 (sym is ∙ e))
 
-  pub no_room : (k ≡ 0 → ⊥) → room - n < k → measured room n (p ∷ l) ≡ Bad
+  pub no_room : (k ≡ 0 → ⊥) → room - n < k → measured room n (p ∷ l) ≡ None
   unfolding measured
   no_room some h = rw (ne_eqb (part_length p) 0 (λ e. some (is ∙ e)), lt-ltb (room - n) (part_length p) (omega (arith, is, h)))
 
@@ -173,27 +135,27 @@ module _ (room n k : ℕ) (p : List ℕ) (l : List (List ℕ)) (is : k ≡ part_
   unfolding measured
   one_more some h = rw (ne_eqb (part_length p) 0 (λ e. some (is ∙ e)), le-ltb (room - n) (part_length p) (omega (arith, is, h)), sym is)
 
-pub none_left : (room n : ℕ) → measured room n [] ≡ Bytes n
+pub none_left : (room n : ℕ) → measured room n [] ≡ Some n
 unfolding measured
 none_left room n = refl
 
 -- ---- a part that was measured well
+no_count : {A : Type 0} (count : ℕ) → Some count ≡ None → A
+no_count count q = let z : ◌≡◌ {A = ℕ} 0 1 = cc in absurd (omega arith)
+
 pub record Fits (room n count : ℕ) (p : List ℕ) (l : List (List ℕ)) : Type 0 where
   pub some : 0 < part_length p
   pub room_for : part_length p ≤ room - n
-  pub rest : Bytes count ≡ measured room (n + part_length p) l
+  pub rest : Some count ≡ measured room (n + part_length p) l
 
-pub part_fits : (room n count : ℕ) (p : List ℕ) (l : List (List ℕ)) → Bytes count ≡ measured room n (p ∷ l) → Fits room n count p l
+pub part_fits : (room n count : ℕ) (p : List ℕ) (l : List (List ℕ)) → Some count ≡ measured room n (p ∷ l) → Fits room n count p l
 unfolding measured
 part_fits room n count p l e = go (eqb (part_length p) 0) refl (ltb (room - n) (part_length p)) refl e
   where
-    no : Bytes count ≡ Bad → Fits room n count p l
-    no q = let z : ◌≡◌ {A = ℕ} 0 1 = cc in absurd (omega arith)
-
     go : (a : Bool) → eqb (part_length p) 0 ≡ a → (b : Bool) → ltb (room - n) (part_length p) ≡ b
-        → Bytes count ≡ pick a Bad (pick b Bad (measured room (n + part_length p) l)) → Fits room n count p l
-    go true h b k q = no q
-    go false h true k q = no q
+        → Some count ≡ pick a None (pick b None (measured room (n + part_length p) l)) → Fits room n count p l
+    go true h b k q = no_count count q
+    go false h true k q = no_count count q
     go false h false k q =
         let other = eqb-false (part_length p) 0 h in
         record { some = omega (arith, other); room_for = ltb-false _ _ k; rest = q }
@@ -223,10 +185,6 @@ pub some_digits : (p d : List ℕ) (n : ℕ) → are_digits (part_digits p) ≡ 
 unfolding part_length
 some_digits p d n e is-digits is-times = rw (e, is-digits, is-times)
 
-pub part_within : (t : List ℕ) (from : ℕ) {part : List ℕ} → part ≡ first_part (drop from t) → length part ≤ length t - from
-part_within t from is =
-    omega (arith, ap length is, length-take-le (place_of 43 (drop from t)) (drop from t) (place_within 43 (drop from t)), place_within 43 (drop from t), length-drop from t)
-
 pub digits_short : (p : List ℕ) → length (part_digits p) ≤ length p
 digits_short p = go (ltb (place_of 42 p) (length p))
   where
@@ -235,30 +193,30 @@ digits_short p = go (ltb (place_of 42 p) (length p))
     go false = omega arith
 
 -- ---- a turn over the parts: the one at a place fits, and the others are measured and written behind it
-module _ (t part : List ℕ) (from : ℕ) (h : from ≤ length t) (is : part ≡ first_part (drop from t)) (room at count : ℕ) (e : Bytes count ≡ measured room at (parts_from t from)) where
-  pub here_fits : Fits room at count part (parts_from t (from + (length part + 1)))
-  here_fits = part_fits room at count part _ (e ∙ ap (measured room at) (parts_turn t part from h is))
+module _ (t part : List ℕ) (n : ℕ) (h : drop n (parts t) ≡ part ∷ drop (n + 1) (parts t)) (room at count : ℕ) (e : Some count ≡ measured room at (drop n (parts t))) where
+  pub here_fits : Fits room at count part (drop (n + 1) (parts t))
+  here_fits = part_fits room at count part _ (e ∙ ap (measured room at) h)
 
-  pub measured_on : (k : ℕ) → k ≡ part_length part → Bytes count ≡ measured room (at + k) (parts_from t (from + (length part + 1)))
-  measured_on k is-k = here_fits.rest ∙ ap (λ (n : ℕ). measured room (at + n) (parts_from t (from + (length part + 1)))) (sym is-k)
+  pub measured_on : (k : ℕ) → k ≡ part_length part → Some count ≡ measured room (at + k) (drop (n + 1) (parts t))
+  measured_on k is-k = here_fits.rest ∙ ap (λ (m : ℕ). measured room (at + m) (drop (n + 1) (parts t))) (sym is-k)
 
-  pub written_on : (k : ℕ) → k ≡ part_length part → (whole bytes bytes' : List ℕ) → whole ≡ sets bytes at (all_bytes (parts_from t from)) → bytes' ≡ sets bytes at (part_bytes part)
-      → whole ≡ sets bytes' (at + k) (all_bytes (parts_from t (from + (length part + 1))))
+  pub written_on : (k : ℕ) → k ≡ part_length part → (whole bytes bytes' : List ℕ) → whole ≡ sets bytes at (all_bytes (drop n (parts t))) → bytes' ≡ sets bytes at (part_bytes part)
+      → whole ≡ sets bytes' (at + k) (all_bytes (drop (n + 1) (parts t)))
   written_on k is-k whole bytes bytes' so put =
-      so ∙ ap (λ (l : List (List ℕ)). sets bytes at (all_bytes l)) (parts_turn t part from h is)
-      ∙ bytes_turn part bytes (parts_from t (from + (length part + 1))) at k is-k
-      ∙ ap (λ (b : List ℕ). sets b (at + k) (all_bytes (parts_from t (from + (length part + 1))))) (sym put)
+      so ∙ ap (λ (l : List (List ℕ)). sets bytes at (all_bytes l)) h
+      ∙ bytes_turn part bytes (drop (n + 1) (parts t)) at k is-k
+      ∙ ap (λ (b : List ℕ). sets b (at + k) (all_bytes (drop (n + 1) (parts t)))) (sym put)
 
 pub product_small : (n m : ℕ) → n ≤ 1048577 → m ≤ 65536 → n * m ≤ 1048577 * 65536
 product_small n m h k = omega (arith, mul-le-mul_right m h, k)
 
 -- ---- a whole text
 module _ (t out : List ℕ) where
-  pub hyphen_so : is_hyphen t ≡ true → (Bytes 0 ≡ unhexed t (length out)) × (out ≡ unhexed_into t out)
+  pub hyphen_so : is_hyphen t ≡ true → (Some 0 ≡ unhexed t (length out)) × (out ≡ unhexed_into t out)
   hyphen_so e = (rw e, rw e)
 
   module _ (no-hyphen : is_hyphen t ≡ false) where
-    pub too_long_so : 131072 < length t → (Bad ≡ unhexed t (length out)) × (out ≡ unhexed_into t out)
+    pub too_long_so : 131072 < length t → (None ≡ unhexed t (length out)) × (out ≡ unhexed_into t out)
     too_long_so h = (rw (no-hyphen, lt-ltb 131072 (length t) h), rw (no-hyphen, lt-ltb 131072 (length t) h))
 
     module _ (short : length t ≤ 131072) (r : Unhexed) (is : r ≡ measured (length out) 0 (parts t)) where
@@ -268,8 +226,8 @@ module _ (t out : List ℕ) where
       into_is : unhexed_into t out ≡ buffer_with r (all_bytes (parts t)) out
       into_is = ap (λ (u : Unhexed). buffer_with u (text_bytes t) out) (sym answer_is) ∙ rw no-hyphen
 
-      pub bad_so : r ≡ Bad → (r ≡ unhexed t (length out)) × (out ≡ unhexed_into t out)
+      pub bad_so : r ≡ None → (r ≡ unhexed t (length out)) × (out ≡ unhexed_into t out)
       bad_so e = (answer_is, sym (into_is ∙ rw e))
 
-      pub good_so : (n : ℕ) (out' : List ℕ) → r ≡ Bytes n → out' ≡ sets out 0 (all_bytes (parts t)) → (Bytes n ≡ unhexed t (length out)) × (out' ≡ unhexed_into t out)
+      pub good_so : (n : ℕ) (out' : List ℕ) → r ≡ Some n → out' ≡ sets out 0 (all_bytes (parts t)) → (Some n ≡ unhexed t (length out)) × (out' ≡ unhexed_into t out)
       good_so n out' e put = (sym e ∙ answer_is, put ∙ sym (into_is ∙ rw e))

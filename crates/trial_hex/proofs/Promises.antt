@@ -5,8 +5,7 @@ use Prim.Native.Nat.{ℕ}
 use lib.ListN.{length}
 use lib.Seq.{sets}
 use Rattle.wire.proofs.Determined.{determined}
-use Rattle.trial_hex.specs.Hex.{place_of, times_from, unhexed, unhexed_into, repeated, untouched}
-use Rattle.trial_hex.specs.declared.Unhexed.{Unhexed}
+use Rattle.trial_hex.specs.Hex.{Unhexed, place_of, times_from, unhexed, unhexed_into, repeated, untouched}
 
 pub place_of_determined : (s : List ℕ) (b r q : ℕ) → r ≡ place_of b s → q ≡ place_of b s → r ≡ q
 place_of_determined s b r q = determined

@@ -1,10 +1,12 @@
 -- Bytes as text (docs/REPLAY.md, "Input"): parts with a plus between them, each of them lower-case hexadecimal digits, two for each byte,
 -- or a number, an asterisk, and the digits that stand so many times.
-use Rattle.std.specs.Prelude.{ℕ, zero, suc, ◌+◌, ◌-◌, ◌*◌, ◌/◌, ◌%◌, Bool, true, false, List, [], ◌∷◌, ◌++◌, eqb, ltb, length, take, drop, get_or}
+use Rattle.std.specs.Prelude.{ℕ, zero, suc, ◌+◌, ◌-◌, ◌*◌, ◌/◌, ◌%◌, Bool, true, false, Option, Some, None, List, [], ◌∷◌, ◌++◌, eqb, ltb, length, take, drop, get_or}
 use Rattle.std.proofs.lemmas.List.Edits.{sets}
 use Rattle.wire.specs.Bytes.{pick}
-use Rattle.trial_hex.specs.declared.Unhexed.{Unhexed}
-use Rattle.trial_hex.specs.declared.Unhexed.TheVariants.{Bytes, Bad}
+
+-- how many bytes a text writes, or that it is none
+abbrev pub Unhexed : Type 0
+Unhexed = Option ℕ
 
 -- how many bytes stand before the first one that is b, all of them where there is none
 unfoldable pub place_of : ℕ → List ℕ → ℕ
@@ -57,10 +59,7 @@ part_length p = pick (are_digits (part_digits p)) (part_times p * (length (part_
 abbrev pub part_bytes : List ℕ → List ℕ
 part_bytes p = repeated (part_digits p) 0 (part_length p)
 
--- ---- the parts of a text; the first is what stands before the first plus
-abbrev pub first_part : List ℕ → List ℕ
-first_part t = take (place_of 43 t) t
-
+-- ---- the parts of a text, which stand between its pluses
 abbrev pub onto : ℕ → List (List ℕ) → List (List ℕ)
 onto a [] = (a ∷ []) ∷ []
 onto a (p ∷ l) = (a ∷ p) ∷ l
@@ -71,9 +70,9 @@ parts (a ∷ l) = pick (eqb a 43) ([] ∷ parts l) (onto a (parts l))
 
 -- how many bytes they write into a buffer of this length in which n stand already, or that they write none
 unfoldable pub measured : ℕ → ℕ → List (List ℕ) → Unhexed
-measured room n [] = Bytes n
+measured room n [] = Some n
 measured room n (p ∷ l) =
-    pick (eqb (part_length p) 0) Bad (pick (ltb (room - n) (part_length p)) Bad (measured room (n + part_length p) l))
+    pick (eqb (part_length p) 0) None (pick (ltb (room - n) (part_length p)) None (measured room (n + part_length p) l))
 
 unfoldable pub all_bytes : List (List ℕ) → List ℕ
 all_bytes [] = []
@@ -84,12 +83,12 @@ abbrev pub is_hyphen : List ℕ → Bool
 is_hyphen t = pick (eqb (length t) 1) (eqb (get_or t 0 0) 45) false
 
 abbrev pub unhexed : List ℕ → ℕ → Unhexed
-unhexed t room = pick (is_hyphen t) (Bytes 0) (pick (ltb 131072 (length t)) Bad (measured room 0 (parts t)))
+unhexed t room = pick (is_hyphen t) (Some 0) (pick (ltb 131072 (length t)) None (measured room 0 (parts t)))
 
 -- the buffer afterwards
 abbrev pub buffer_with : Unhexed → List ℕ → List ℕ → List ℕ
-buffer_with (Bytes n) s out = sets out 0 s
-buffer_with Bad s out = out
+buffer_with (Some n) s out = sets out 0 s
+buffer_with None s out = out
 
 abbrev pub text_bytes : List ℕ → List ℕ
 text_bytes t = pick (is_hyphen t) [] (all_bytes (parts t))

@@ -1,10 +1,9 @@
 // Bytes from text: digits, and digits that repeat (docs/REPLAY.md, "Input").
 #![tactic(auto)]
 
-ghost use Rattle.std.specs.Prelude.{◌≡◌, ◌+◌, ◌/◌, ◌≤◌, ◌<◌, length, drop};
+ghost use Rattle.std.specs.Prelude.{◌≡◌, ◌+◌, ◌/◌, ◌≤◌, ◌<◌, length, Some};
 ghost use Rattle.std.proofs.lemmas.List.Edits.{sets};
-ghost use Rattle.trial_hex.specs.Hex.{place_of, digit_value, all_digits, are_digits, byte_at, repeated, with_digit, times_from, part_times, part_digits, part_length, part_bytes, first_part, parts, measured, all_bytes, is_hyphen, unhexed, unhexed_into, untouched};
-ghost use Rattle.trial_hex.specs.declared.Unhexed.TheVariants.{Bytes};
+ghost use Rattle.trial_hex.specs.Hex.{place_of, digit_value, all_digits, are_digits, byte_at, repeated, with_digit, times_from, part_times, part_digits, part_length, part_bytes, parts, measured, all_bytes, is_hyphen, unhexed, unhexed_into, untouched};
 
 // The most characters of a text, and so the most digits.
 const MOST_CHARACTERS: usize = 131_072;
@@ -12,86 +11,55 @@ const MOST_CHARACTERS: usize = 131_072;
 // The most times that digits stand.
 const MOST_TIMES: usize = 1_048_577;
 
-// How many bytes a text writes, or that it is none.
-#[derive(Clone, Copy)]
-pub enum Unhexed {
-    Bytes(usize),
-    Bad,
-}
-
-// Puts the bytes that a text writes at the start of a buffer, which bounds their number. A text that writes none changes nothing.
-pub fn unhex(text: &[u8], bytes: &mut [u8]) -> Unhexed
+// Puts the bytes that a text writes at the start of a buffer, which bounds their number, and answers how many they are. A text that writes none
+// changes nothing.
+pub fn unhex(text: &[u8], bytes: &mut [u8]) -> Option<usize>
     ensures value { result ≡ unhexed text.now (length bytes.old) }
     ensures bytes_after { bytes.new ≡ unhexed_into text.now bytes.old }
 {
     if is_hyphen(text) {
-        return Unhexed::Bytes(0);
+        return Some(0);
     }
     if MOST_CHARACTERS < text.len() {
-        return Unhexed::Bad;
+        return None;
     }
-    let found = measure(text, bytes.len());
-    let Unhexed::Bytes(count) = found else {
-        return found;
-    };
+    let count = measure(text, bytes.len())?;
     put_parts(text, bytes, count);
-    found
+    Some(count)
 }
 
 // No bytes are written as a hyphen, and never as no digits.
 fn is_hyphen(text: &[u8]) -> bool
     ensures { result ≡ is_hyphen text.now }
 {
-    if text.len() != 1 {
-        return false;
-    }
-    text[0] == b'-'
+    matches!(text, b"-")
 }
 
 // How many bytes the parts of a text write into a buffer of this length.
-fn measure(text: &[u8], room: usize) -> Unhexed
+fn measure(text: &[u8], room: usize) -> Option<usize>
     requires { length text.now ≤ 131072 }
     ensures { result ≡ measured room 0 (parts text.now) }
 {
     let mut count: usize = 0;
-    let mut from: usize = 0;
-    while from <= text.len() {
-        let part = part_at(text, from);
+    for part in text.split(|byte| *byte == b'+') {
         let length = part_length(part);
-        if length == 0 {
-            return Unhexed::Bad;
-        }
-        if room - count < length {
-            return Unhexed::Bad;
+        if length == 0 || room - count < length {
+            return None;
         }
         count += length;
-        from += part.len() + 1;
     }
-    Unhexed::Bytes(count)
+    Some(count)
 }
 
 fn put_parts(text: &[u8], bytes: &mut [u8], count: usize)
     requires text_len_bound { length text.now ≤ 131072 }
-    requires count_value { Bytes count ≡ measured (length bytes.old) 0 (parts text.now) }
+    requires count_value { Some count ≡ measured (length bytes.old) 0 (parts text.now) }
     ensures { bytes.new ≡ sets bytes.old 0 (all_bytes (parts text.now)) }
 {
     let mut at: usize = 0;
-    let mut from: usize = 0;
-    while from <= text.len() {
-        let part = part_at(text, from);
+    for part in text.split(|byte| *byte == b'+') {
         at += put_part(part, bytes, at);
-        from += part.len() + 1;
     }
-}
-
-// The part that starts at a place: what stands before the next plus.
-fn part_at(text: &[u8], from: usize) -> &[u8]
-    requires { from ≤ length text.now }
-    ensures { result.now ≡ first_part (drop from text.now) }
-{
-    let rest = &text[from..];
-    let end = place_of(rest, b'+');
-    &rest[0..end]
 }
 
 // How many bytes a part writes, 0 where it is none.
@@ -123,10 +91,8 @@ fn put_repeated(digits: &[u8], count: usize, bytes: &mut [u8], at: usize)
     ensures { bytes.new ≡ sets bytes.old at (repeated digits.now 0 count) }
 {
     let width = digits.len() / 2;
-    let mut i: usize = 0;
-    while i < count {
+    for i in 0..count {
         bytes[at + i] = byte_at(digits, i % width);
-        i += 1;
     }
 }
 
@@ -156,7 +122,7 @@ fn times_of(part: &[u8]) -> usize
 {
     let star = place_of(part, b'*');
     if star < part.len() {
-        return number_of(&part[0..star]);
+        return number_of(&part[..star]);
     }
     1
 }
@@ -166,13 +132,11 @@ pub fn number_of(text: &[u8]) -> usize
     ensures { (result ≡ times_from 0 text.now) × (result ≤ 1048577) }
 {
     let mut n: usize = 0;
-    let mut i: usize = 0;
-    while i < text.len() {
-        n = with_digit(n, text[i]);
+    for digit in text {
+        n = with_digit(n, *digit);
         if n == 0 {
             return 0;
         }
-        i += 1;
     }
     n
 }
@@ -196,26 +160,13 @@ fn with_digit(n: usize, digit: u8) -> usize
 fn are_digits(text: &[u8]) -> bool
     ensures { result ≡ are_digits text.now }
 {
-    if text.len() / 2 == 0 {
-        return false;
-    }
-    if text.len() % 2 != 0 {
-        return false;
-    }
-    all_digits(text)
+    2 <= text.len() && text.len() % 2 == 0 && all_digits(text)
 }
 
 fn all_digits(text: &[u8]) -> bool
     ensures { result ≡ all_digits text.now }
 {
-    let mut i: usize = 0;
-    while i < text.len() {
-        if 15 < digit_value(text[i]) {
-            return false;
-        }
-        i += 1;
-    }
-    true
+    text.iter().all(|digit| digit_value(*digit) < 16)
 }
 
 // What a lower-case digit stands for, 16 where it is none.
@@ -233,14 +184,7 @@ fn digit_value(digit: u8) -> u8
 pub fn place_of(s: &[u8], byte: u8) -> usize
     ensures { result ≡ place_of byte s.now }
 {
-    let mut i: usize = 0;
-    while i < s.len() {
-        if s[i] == byte {
-            return i;
-        }
-        i += 1;
-    }
-    i
+    s.iter().position(|x| *x == byte).unwrap_or(s.len())
 }
 
 // Fills an output with a5 before it is lent to a writer, so that every byte that is written shows.

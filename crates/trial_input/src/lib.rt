@@ -5,12 +5,13 @@ ghost use Rattle.std.specs.Prelude.{◌≡◌};
 ghost use Rattle.wire.specs.View.{view, viewed};
 ghost use Rattle.trial_input.specs.Input.{no_input};
 
+use numbers::WireNumber;
 use std::io;
 use std::io::Read;
 use wire::View;
 
 // More than any input has; a loop has to have a bound.
-pub const NO_END: u64 = 18_446_744_073_709_551_615;
+pub const NO_END: u64 = u64::MAX;
 
 // How much of the input's last piece was taken and how long it is, the length of the line that was read, and whether the input ended with it.
 #[derive(Clone, Copy)]
@@ -40,24 +41,29 @@ pub fn read_line(
     piece: &mut [u8],
     line: &mut [u8],
 ) -> io::Result<Input> {
-    let mut input = before;
-    let mut kept: usize = 0;
+    let mut input = Input {
+        line_length: 0,
+        ..before
+    };
     for _ in 0..NO_END {
         input = refilled(reader, input, piece)?;
         if input.ended {
-            return Ok(with_line(input, kept));
+            return Ok(input);
         }
-        let byte = numbers::u8_at(piece, input.taken);
-        input = after_byte(input);
+        let byte = u8::read_at(piece, input.taken);
+        input.taken = input.taken.wrapping_add(1);
         if byte == b'\n' {
-            return Ok(with_line(input, kept));
+            return Ok(input);
         }
-        kept = with_byte(line, kept, byte);
+        if input.line_length < line.len() {
+            line[input.line_length] = byte;
+            input.line_length += 1;
+        }
     }
-    Ok(with_line(input, kept))
+    Ok(input)
 }
 
-// The next piece, where the last one is used up.
+// The next piece, where the last one is used up. The input ends with an empty one.
 fn refilled(reader: &mut impl Read, input: Input, piece: &mut [u8]) -> io::Result<Input> {
     if input.taken < input.piece_length {
         return Ok(input);
@@ -66,45 +72,16 @@ fn refilled(reader: &mut impl Read, input: Input, piece: &mut [u8]) -> io::Resul
     Ok(Input {
         taken: 0,
         piece_length: count,
-        line_length: 0,
         ended: count == 0,
+        ..input
     })
-}
-
-fn after_byte(input: Input) -> Input {
-    Input {
-        taken: std::num::wrapping_add_usize(input.taken, 1),
-        piece_length: input.piece_length,
-        line_length: 0,
-        ended: false,
-    }
-}
-
-fn with_line(input: Input, length: usize) -> Input {
-    Input {
-        taken: input.taken,
-        piece_length: input.piece_length,
-        line_length: length,
-        ended: input.ended,
-    }
-}
-
-fn with_byte(line: &mut [u8], length: usize, byte: u8) -> usize {
-    if length < line.len() {
-        line[length] = byte;
-        return length + 1;
-    }
-    length
 }
 
 // The first bytes of a buffer, none where there are not as many.
 pub fn front(s: &[u8], length: usize) -> &[u8]
     ensures { result.now ≡ viewed s.now (view 0 length) }
 {
-    let view = View {
-        place: 0,
-        length: length,
-    };
+    let view = View { place: 0, length };
     view.part(s)
 }
 

@@ -4,9 +4,8 @@ use mathlib.Core.List.{List}
 use Prim.Native.Nat.{ℕ, ◌/◌}
 use lib.ListN.{length}
 use Rattle.wire.proofs.Determined.{determined}
-use Rattle.trial_line.specs.Line.{asked_of, asked_into}
+use Rattle.trial_line.specs.Line.{Asked, asked_of, asked_into}
 use Rattle.trial_line.specs.Words.{word_in}
-use Rattle.trial_line.specs.declared.Asked.{Asked}
 
 pub ask_determined : (l bytes : List ℕ) (r q : Asked) → r ≡ asked_of l (length bytes) → q ≡ asked_of l (length bytes) → r ≡ q
 ask_determined l bytes r q = determined

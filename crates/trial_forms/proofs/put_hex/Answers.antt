@@ -22,4 +22,4 @@ returns-clause-value c =
 pub returns-clause-out_after : goal.returns-clause-out_after
 returns-clause-out_after c =
     let n = length_hex c.args.bytes.now in
-    hex_done c.args.out.now c.loop-i.out c.args.bytes.now c.args.at _ c.loop-i.i (omega arith) (omega arith) c.loop-i.invariant.1.1.1
+    hex_done c.args.out.now c.loop-i.out c.args.bytes.now c.args.at _ c.loop-i.i (omega arith) (omega arith) c.loop-i.invariant

@@ -1,12 +1,8 @@
-use lib.ListN.{length}
+use lib.ListN.{length, drop}
 use mathlib.Core.Path.{◌≡◌}
-use Prim.Native.Nat.{◌+◌, ◌-◌, ◌≤◌}
+use Prim.Native.Nat.{◌≤◌}
 use Rattle.trial_hex.specs.Hex.{parts, measured}
-use Rattle.trial_hex.proofs.Laws.{parts_from}
 use Rattle.trial_hex.proofs.measure.Given as goal
 
-abbrev pub invariant-loop-from : goal.invariant-loop-from
-invariant-loop-from l = ((l.from ≤ length l.text + 1) × (l.count ≤ l.room)) × (measured l.room 0 (parts l.text) ≡ measured l.room l.count (parts_from l.text l.from))
-
-abbrev pub decreases-loop-from : goal.decreases-loop-from
-decreases-loop-from l = length l.text + 1 - l.from
+abbrev pub invariant-loop-part : goal.invariant-loop-part
+invariant-loop-part l = (l.count ≤ l.room) × (measured l.room 0 (parts l.text) ≡ measured l.room l.count (drop (length l.yielded) (parts l.text)))

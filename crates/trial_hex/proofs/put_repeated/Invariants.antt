@@ -1,12 +1,8 @@
 use Rattle.trial_hex.specs.Hex.{repeated}
 use mathlib.Core.Path.{◌≡◌}
-use Prim.Native.Nat.{◌+◌, ◌-◌, ◌≤◌}
-use lib.ListN.{length}
+use Prim.Native.Nat.{◌+◌, ◌-◌}
 use lib.Seq.{sets}
 use Rattle.trial_hex.proofs.put_repeated.Given as goal
 
 abbrev pub invariant-loop-i : goal.invariant-loop-i
-invariant-loop-i l = ((l.i ≤ l.count) × (length l.bytes ≡ length l.initial.bytes)) × (sets l.initial.bytes l.at (repeated l.digits 0 l.count) ≡ sets l.bytes (l.at + l.i) (repeated l.digits l.i (l.count - l.i)))
-
-abbrev pub decreases-loop-i : goal.decreases-loop-i
-decreases-loop-i l = l.count - l.i
+invariant-loop-i l = sets l.initial.bytes l.at (repeated l.digits 0 l.count) ≡ sets l.bytes (l.at + l.i) (repeated l.digits l.i (l.count - l.i))

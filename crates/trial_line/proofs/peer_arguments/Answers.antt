@@ -1,13 +1,19 @@
-use mathlib.Core.Path.{sym, ◌∙◌}
-use Rattle.trial_hex.specs.Hex.{place_of}
-use Rattle.trial_line.specs.Words.{word_in}
-use Rattle.trial_line.proofs.Laws.{peer_at, no_peer}
+use Rattle.std.proofs.Common.{◌≡◌, ◌∙◌, List, ℕ, refl, eqb, rules, tests}
+use Rattle.std.specs.Cmp.Lexicographic.{pointwise}
+use denote.Ref.{Bor}
+use Rattle.models.specs.declared.AsnLength.{AsnLength}
+use Rattle.per_peer_type.specs.declared.BmpPeerType.{BmpPeerType}
+use Rattle.std.specs.Option.{option_map}
+use Rattle.std.specs.Slice.Iter.{iter_rest}
+use Rattle.std.proofs.lemmas.Iterator.{YieldsList-from_slice}
+use Rattle.std.proofs.lemmas.Iterator.Search.{find_from_yields_List}
+use Rattle.trial_line.specs.Line.{arguments, peers, peer_arguments}
+use Rattle.trial_line.proofs.Laws.{equal_is, row_found}
 use Rattle.trial_line.proofs.peer_arguments.Goals as goal
 
-pub returns-then-i-ge8 : goal.returns-then-i-ge8
-unfolding word_in place_of
-returns-then-i-ge8 c = sym (no_peer c.args.text.now c.word_in-i.result c.args.afi c.word_in-i.ensures c.if-i-ge8.true)
-
 pub returns : goal.returns
-unfolding word_in place_of
-returns c = c.found.ensures ∙ rw (c.asn_length.ensures, c.type_of.ensures) (sym (peer_at c.args.text.now c.word_in-i.result c.args.afi c.word_in-i.ensures c.if-i-ge8.false))
+unfolding peer_arguments
+returns c =
+    let first = find_from_yields_List (λ row. pointwise eqb c.args.text.now row.0.now) _ _ c.find.result c.find.ensures.ran (YieldsList-from_slice _ c.iter.ensures.rest) (λ x b q k. search (rules, tests)) in
+    let mapped : c.map.result ≡ option_map (λ (x : Bor (Bor (List ℕ) × AsnLength × BmpPeerType)). arguments c.args.afi x.now.1 x.now.2) c.find.result = search rules in
+    mapped ∙ row_found (iter_rest c.iter.result) c.iter.ensures.rest (λ row. pointwise eqb c.args.text.now row.0.now) (λ row. arguments c.args.afi row.1 row.2) c.args.text.now (peers c.args.afi) (equal_is c.args.text.now _, refl, (equal_is c.args.text.now _, refl, (equal_is c.args.text.now _, refl, (equal_is c.args.text.now _, refl, (equal_is c.args.text.now _, refl, (equal_is c.args.text.now _, refl, (equal_is c.args.text.now _, refl, (equal_is c.args.text.now _, refl, tt)))))))) c.find.result first

@@ -1,13 +1,18 @@
-use mathlib.Core.Path.{sym}
-use Rattle.trial_hex.specs.Hex.{place_of}
-use Rattle.trial_line.specs.Words.{word_in}
-use Rattle.trial_line.proofs.Laws.{reader_at, no_reader}
+use Rattle.std.proofs.Common.{◌≡◌, ◌∙◌, List, ℕ, refl, eqb, rules, tests}
+use Rattle.std.specs.Cmp.Lexicographic.{pointwise}
+use denote.Ref.{Bor}
+use Rattle.trial_forms.specs.declared.Kind.{Kind}
+use Rattle.std.specs.Option.{option_map}
+use Rattle.std.specs.Slice.Iter.{iter_rest}
+use Rattle.std.proofs.lemmas.Iterator.{YieldsList-from_slice}
+use Rattle.std.proofs.lemmas.Iterator.Search.{find_from_yields_List}
+use Rattle.trial_line.specs.Line.{readers, reader_of}
+use Rattle.trial_line.proofs.Laws.{equal_is, row_found}
 use Rattle.trial_line.proofs.reader_of.Goals as goal
 
-pub returns-then-i-ge10 : goal.returns-then-i-ge10
-unfolding word_in place_of
-returns-then-i-ge10 c = sym (no_reader c.args.text.now c.word_in-i.result c.word_in-i.ensures c.if-i-ge10.true)
-
 pub returns : goal.returns
-unfolding word_in place_of
-returns c = rw c.kind_at.ensures (sym (reader_at c.args.text.now c.word_in-i.result c.word_in-i.ensures c.if-i-ge10.false))
+unfolding reader_of
+returns c =
+    let first = find_from_yields_List (λ row. pointwise eqb c.args.text.now row.0.now) _ _ c.find.result c.find.ensures.ran (YieldsList-from_slice _ c.iter.ensures.rest) (λ x b q k. search (rules, tests)) in
+    let mapped : c.map.result ≡ option_map (λ (x : Bor (Bor (List ℕ) × Kind)). x.now.1) c.find.result = search rules in
+    mapped ∙ row_found (iter_rest c.iter.result) c.iter.ensures.rest (λ row. pointwise eqb c.args.text.now row.0.now) (λ row. row.1) c.args.text.now readers (equal_is c.args.text.now _, refl, (equal_is c.args.text.now _, refl, (equal_is c.args.text.now _, refl, (equal_is c.args.text.now _, refl, (equal_is c.args.text.now _, refl, (equal_is c.args.text.now _, refl, (equal_is c.args.text.now _, refl, (equal_is c.args.text.now _, refl, (equal_is c.args.text.now _, refl, (equal_is c.args.text.now _, refl, tt)))))))))) c.find.result first

@@ -1,40 +1,35 @@
-use native.Mathlib.Omega.{arith}
-use mathlib.Core.Path.{sym, ap, ◌∙◌}
+use Rattle.std.proofs.Common.{◌≡◌, ◌∙◌, sym, ap, rules}
+use Rattle.trial_line.specs.Words.{word}
 use Rattle.trial_line.specs.Line.{verb_of, reader_of, reading, rewriting}
-use Rattle.trial_hex.proofs.Laws.{rest_is}
-use Rattle.trial_line.proofs.Laws.{starts_long}
+use Rattle.trial_line.proofs.Laws.{equal_is, starts_is}
 use Rattle.trial_line.proofs.verb_of.Goals as goal
 
-pub returns-then-same : goal.returns-then-same
+pub returns-then-eq : goal.returns-then-eq
 unfolding verb_of
-returns-then-same c = rw (sym c.same.ensures ∙ c.if-same.true)
+returns-then-eq c = rw (sym (equal_is c.args.text.now (word "split")) ∙ sym c.eq.ensures ∙ c.if-eq.true)
 
-pub returns-then-same-2 : goal.returns-then-same-2
+pub returns-then-eq-2 : goal.returns-then-eq-2
 unfolding verb_of
-returns-then-same-2 c = rw (sym c.same.ensures ∙ c.if-same.false, sym c.same-2.ensures ∙ c.if-same-2.true)
+returns-then-eq-2 c = rw (sym (equal_is c.args.text.now (word "split")) ∙ sym c.eq.ensures ∙ c.if-eq.false, sym (equal_is c.args.text.now (word "equal")) ∙ sym c.eq-2.ensures ∙ c.if-eq-2.true)
 
-pub slice_bounds-reader_of-count : goal.slice_bounds-reader_of-count
-slice_bounds-reader_of-count c = omega (arith, starts_long _ _ (sym c.starts_with.ensures ∙ c.if-starts_with.true))
-
-pub slice_bounds-reader_of-start : goal.slice_bounds-reader_of-start
-slice_bounds-reader_of-start c = omega (arith, starts_long _ _ (sym c.starts_with.ensures ∙ c.if-starts_with.true))
-
-pub returns-then-starts_with : goal.returns-then-starts_with
+pub returns-in-Some : goal.returns-in-Some
 unfolding verb_of
-returns-then-starts_with c =
+returns-in-Some c =
+    let mapped : c.map.result ≡ rewriting c.reader_of.result = search rules in
     rw (
-      sym c.same.ensures ∙ c.if-same.false,
-      sym c.same-2.ensures ∙ c.if-same-2.false,
-      sym c.starts_with.ensures ∙ c.if-starts_with.true,
+      sym (equal_is c.args.text.now (word "split")) ∙ sym c.eq.ensures ∙ c.if-eq.false,
+      sym (equal_is c.args.text.now (word "equal")) ∙ sym c.eq-2.ensures ∙ c.if-eq-2.false,
+      sym (starts_is c.args.text.now (word "rewrite-")) ∙ c.in-Some.ensures.cases.0,
     )
-    (c.rewriting.ensures ∙ ap rewriting (c.reader_of.ensures ∙ ap reader_of (rest_is c.args.text.now 8)))
+    (mapped ∙ ap rewriting (c.reader_of.ensures ∙ ap reader_of c.in-Some.ensures.cases.1))
 
-pub returns : goal.returns
+pub returns-in-None : goal.returns-in-None
 unfolding verb_of
-returns c =
+returns-in-None c =
+    let mapped : c.map-in-None.result ≡ reading c.reader_of-in-None.result = search rules in
     rw (
-      sym c.same.ensures ∙ c.if-same.false,
-      sym c.same-2.ensures ∙ c.if-same-2.false,
-      sym c.starts_with.ensures ∙ c.if-starts_with.false,
+      sym (equal_is c.args.text.now (word "split")) ∙ sym c.eq.ensures ∙ c.if-eq.false,
+      sym (equal_is c.args.text.now (word "equal")) ∙ sym c.eq-2.ensures ∙ c.if-eq-2.false,
+      sym (starts_is c.args.text.now (word "rewrite-")) ∙ c.in-None.ensures.cases,
     )
-    (c.reading.ensures ∙ ap reading c.reader_of-2.ensures)
+    (mapped ∙ ap reading c.reader_of-in-None.ensures)
