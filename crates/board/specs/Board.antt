@@ -97,7 +97,7 @@ up_of b k =
     let i : ℕ = place_for b.places k in
     pick (ltb i peer_places) (done (with_entry b i (used_by k) silent)) (refused BoardFull b)
 
--- a Peer Down removes it, and leaves an all-zero entry
+-- a Peer Down removes it, and leaves an entry with nothing in it
 unfoldable pub down_of : Board → PeerKey → Updated
 down_of b k =
     let i : ℕ = find_key b.places k in

@@ -27,7 +27,7 @@ pub struct PerPeerHeaderAnswer {
 pub const PER_PEER_HEADER: usize = 42;
 
 // Reads the header at the front of the bytes. The type is judged before the length, so that an unknown one is named even where more is
-// missing; where there is no byte at all, u8_at gives 0 and the length refuses.
+// missing; where there is no byte at all, read_at gives 0 and the length refuses.
 pub fn parse_per_peer_header(s: &[u8]) -> Result<PerPeerHeaderAnswer, Refusal>
     ensures { result ≡ read_per_peer_header s.now }
 {
