@@ -8,7 +8,6 @@ use native.Mathlib.Omega.{arith}
 use borrow.Author.Tests.{lt-leb, le-leb, lt-ltb, le-ltb, leb-true, leb-false, ltb-true, ltb-false}
 use lib.Dec.{leb, ltb}
 use lib.ListN.{length, drop, length-drop}
-use Rattle.std.specs.declared.result.Result.{Result}
 use Rattle.std.specs.declared.result.Result.TheVariants.{Ok}
 use Rattle.wire.specs.Bytes.{pick, num_at}
 use Rattle.cursor.specs.Read.{cursor}
@@ -23,10 +22,9 @@ use Rattle.tlv_head.specs.Head.{head_at}
 use Rattle.tlv_head.specs.declared.TlvHead.{TlvHead}
 use Rattle.tlv_head.proofs.Heads.{Head, was_found, was_short}
 use Rattle.initiation_message.specs.Shown.{entry}
-use Rattle.initiation_message.specs.Read.{step, stop_behind, step_at}
+use Rattle.initiation_message.specs.Read.{step, stop_behind, Stepped, step_at}
 use Rattle.initiation_message.specs.declared.InitiationTlv.{InitiationTlv}
 use Rattle.walk.specs.Walk.{step_of}
-use Rattle.walk.specs.declared.Step.{Step}
 use Rattle.walk.specs.declared.Step.TheVariants.{Stop, Whole}
 
 pub data Seen (s : List ℕ) : Walk.Step Tlv → Type 0 where
@@ -67,8 +65,8 @@ no_fault s r (none h) q = cc
 no_fault s r (whole h k) q = cc
 
 -- ---- each answer of `step_at`, by the head that was read
-module _ (s : List ℕ) (at : ℕ) where
-  pub brief_at : head_at 1 s at ≡ None → ◌≡◌ {A = Result (Step InitiationTlv) Refusal} (Ok (Stop at)) (step_at s at)
+module _ (s : List ℕ) (at : ℕ) (o : InitiationTlv) where
+  pub brief_at : head_at 1 s at ≡ None → ◌≡◌ {A = Stepped} (Ok (Stop at), o) (step_at s at o)
   brief_at e =
       let h = was_short 1 s at refl (sym e) in
       let l : length (drop at s) ≤ 4 = simp length-drop (omega arith) in
@@ -81,17 +79,17 @@ module _ (s : List ℕ) (at : ℕ) where
     long : 4 < length (drop at s)
     long = let w = head in simp length-drop (omega arith)
 
-    pub beyond_at : length s - h.value.at < h.length → ◌≡◌ {A = Result (Step InitiationTlv) Refusal} (Ok (Stop h.value.at)) (step_at s at)
+    pub beyond_at : length s - h.value.at < h.length → ◌≡◌ {A = Stepped} (Ok (Stop h.value.at), o) (step_at s at o)
     beyond_at l =
         let w = head in
         rw (of (drop at s) (none (inr (long, rw (length-drop, w.size_is) (omega arith)))), lt-leb (length (drop at s)) 4 long, w.next)
 
     pub whole_at : h.length ≤ length s - h.value.at
-        → ◌≡◌ {A = Result (Step InitiationTlv) Refusal} (Ok (Whole (record { kind = h.kind; info_len = h.length; place = h.value.at }) (cursor (h.value.at + h.length)))) (step_at s at)
+        → ◌≡◌ {A = Stepped} (Ok (Whole (cursor (h.value.at + h.length))), record { kind = h.kind; info_len = h.length; place = h.value.at }) (step_at s at o)
     whole_at l =
         let w = head in
         let end_is : at + (4 + num_at 2 (drop at s) 2) ≡ h.value.at + h.length = omega arith in
-        sym (ap (step_of entry size_of stop_behind at (drop at s)) (of (drop at s) (whole long (rw (length-drop, w.size_is) (omega arith))))
-        ∙ (λ i. Ok (Whole (record { kind = w.kind_is i; info_len = w.size_is i; place = sym w.next i }) (cursor (end_is i)))))
+        sym (ap (step_of entry size_of stop_behind at (drop at s) o) (of (drop at s) (whole long (rw (length-drop, w.size_is) (omega arith))))
+        ∙ (λ i. (Ok (Whole (cursor (end_is i))), record { kind = w.kind_is i; info_len = w.size_is i; place = sym w.next i })))
 
 pub ruleset answers = (brief_at, beyond_at, whole_at)

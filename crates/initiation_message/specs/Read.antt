@@ -27,9 +27,12 @@ kit = kit_of Tlv InitiationTlv step size_of entry zero_tlv places
 abbrev pub stop_behind : ℕ → List ℕ → ℕ
 stop_behind at s = stop_at at (tail_of s)
 
--- one step at a place, as the code answers it; there is no fault
-abbrev pub step_at : List ℕ → ℕ → Result (Step InitiationTlv) Refusal
-step_at s at = step_of entry size_of stop_behind at (drop at s) (step (drop at s))
+-- one step at a place, as the code answers it, and the entry that it leaves; there is no fault
+abbrev pub Stepped : Type 0
+Stepped = Result Step Refusal × InitiationTlv
+
+abbrev pub step_at : List ℕ → ℕ → InitiationTlv → Stepped
+step_at s at e = step_of entry size_of stop_behind at (drop at s) e (step (drop at s))
 
 abbrev pub answer : Out InitiationTlv → ReadInitiation
 answer (good n at table z) = good_answer n at table (tail_of z)

@@ -92,12 +92,7 @@ impl InitiationTlv {
 pub fn parse_initiation_message(s: &[u8]) -> Result<InitiationAnswer, Refusal>
     ensures { result ≡ read_initiation s.now }
 {
-    let none = InitiationTlv {
-        kind: 0,
-        info_len: 0,
-        place: 0,
-    };
-    let mut tlvs = [none; wire::TLV_PLACES];
+    let mut tlvs = [InitiationTlv::NONE; wire::TLV_PLACES];
     let walked = walk::walk(s, 0, s.len(), &mut tlvs)?;
     Ok(InitiationAnswer {
         stop: walked.stop,
@@ -110,6 +105,12 @@ pub fn parse_initiation_message(s: &[u8]) -> Result<InitiationAnswer, Refusal>
 }
 
 impl Entry for InitiationTlv {
+    const NONE: InitiationTlv = InitiationTlv {
+        kind: 0,
+        info_len: 0,
+        place: 0,
+    };
+
     ghost Item = { Tlv };
 
     ghost step = { step };
@@ -118,13 +119,13 @@ impl Entry for InitiationTlv {
 
     ghost entry = { entry };
 
-    ghost none = { zero_tlv };
+    ghost NONE = { zero_tlv };
 
     ghost stop_at = { stop_behind };
 
     // A TLV is read while more than a head is left. None is refused: what is not whole is the tail.
     #[tactic(auto, using(crate::proofs::Steps::answers))]
-    fn step_at(s: &[u8], at: usize) -> Result<Step<InitiationTlv>, Refusal> {
+    fn step_at(s: &[u8], at: usize, slot: &mut InitiationTlv) -> Result<Step, Refusal> {
         let Some(head) = tlv_head::read_head(Cursor { at }, s, 1) else {
             return Ok(Step::Stop(at));
         };
@@ -133,11 +134,11 @@ impl Entry for InitiationTlv {
         if wire::left(s, place) < size {
             return Ok(Step::Stop(place));
         }
-        let tlv = InitiationTlv {
+        *slot = InitiationTlv {
             kind: head.kind,
             info_len: head.length,
             place: place as u32,
         };
-        Ok(Step::Whole(tlv, Cursor { at: place + size }))
+        Ok(Step::Whole(Cursor { at: place + size }))
     }
 }

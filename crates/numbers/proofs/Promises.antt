@@ -5,6 +5,6 @@ use Prim.Native.Nat.{ℕ}
 use Rattle.wire.specs.Bytes.{number_at}
 use Rattle.wire.proofs.Determined.{determined}
 
--- Two answers of u8_at, u16_at, u32_at or u64_at (w is 1, 2, 4 or 8) for the same bytes and place are equal.
+-- Two answers of WireNumber::read_at for a u8, u16, u32 or u64 (w is 1, 2, 4 or 8) and the same bytes and place are equal.
 pub number_determined : (w : ℕ) (s : List ℕ) (at r q : ℕ) → r ≡ number_at w s at → q ≡ number_at w s at → r ≡ q
 number_determined w s at r q = determined

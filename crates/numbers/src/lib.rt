@@ -17,12 +17,14 @@ pub trait WireNumber: Copy {
         ensures { value result ≡ number_at WIDTH s.now at };
 }
 
-// The N bytes at a place, where all of them are there.
+// The N bytes at a place, where all of them are there. What is left is asked for as the readers ask for it, so that it is asked for once.
 pub fn bytes_at<const N: usize>(s: &[u8], at: usize) -> Option<&[u8; N]>
     ensures { MatchOption result (length s.now < at + N) (λ bytes. (at + N ≤ length s.now) × (bytes.now ≡ take N (drop at s.now))) }
 {
-    let (bytes, _) = s.get(at..)?.split_first_chunk::<N>()?;
-    Some(bytes)
+    if wire::left(s, at) < N || N == 0 && s.len() < at {
+        return None;
+    }
+    s[at..at + N].first_chunk::<N>()
 }
 
 impl WireNumber for u8 {

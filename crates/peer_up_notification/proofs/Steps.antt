@@ -23,6 +23,7 @@ use Rattle.tlv_head.proofs.Heads.{Head, was_found, was_short}
 use Rattle.wire.proofs.Needs.{was_met, was_cut, cut_from}
 use Rattle.peer_up_notification.specs.Shown.{shown_tlv, entry}
 use Rattle.peer_up_notification.specs.Read.{step, stop_at, Stepped, step_at}
+use Rattle.peer_up_notification.specs.declared.PeerUpNotificationTlv.{PeerUpNotificationTlv}
 use Rattle.walk.specs.Walk.{step_of}
 use Rattle.walk.specs.declared.Step.TheVariants.{Stop, Whole}
 
@@ -76,11 +77,11 @@ numbered s r cut q = let e : cut_at (length s) 4 (num_at 2 s 2) ≡ r = cc in su
 numbered s r (whole h k) q = absurd cc
 
 -- ---- each answer of `step_at`, by the head that was read and what it needed
-module _ (s : List ℕ) (at : ℕ) where
-  pub brief_at : head_at 0 s at ≡ None → ◌≡◌ {A = Stepped} (Ok (Stop at)) (step_at s at)
+module _ (s : List ℕ) (at : ℕ) (o : PeerUpNotificationTlv) where
+  pub brief_at : head_at 0 s at ≡ None → ◌≡◌ {A = Stepped} (Ok (Stop at), o) (step_at s at o)
   brief_at e =
       let h = was_short 0 s at refl (sym e) in
-      sym (ap (step_of entry size_of stop_at at (drop at s)) (none_of (drop at s) (simp length-drop (omega arith))))
+      sym (ap (step_of entry size_of stop_at at (drop at s) o) (none_of (drop at s) (simp length-drop (omega arith))))
 
   module _ (h : TlvHead) (e : head_at 0 s at ≡ Some h) where
     head : Head 0 s at h
@@ -89,20 +90,20 @@ module _ (s : List ℕ) (at : ℕ) where
     long : 4 ≤ length (drop at s)
     long = let w = head in simp length-drop (omega arith)
 
-    pub cut-at : (r : Refusal) → need_at (length s) h.value.at h.length ≡ Err r → ◌≡◌ {A = Stepped} (Err r) (step_at s at)
+    pub cut-at : (r : Refusal) → need_at (length s) h.value.at h.length ≡ Err r → ◌≡◌ {A = Stepped} (Err r, o) (step_at s at o)
     cut-at r q =
         let w = head in
         let lacked = was_cut (length s) h.value.at h.length q refl in
-        sym (ap (step_of entry size_of stop_at at (drop at s)) (cut_of (drop at s) long (rw (length-drop, w.size_is) (omega (arith, lacked.few))))
-        ∙ ap Err (ap (λ (k : ℕ). from at (cut_at (length (drop at s)) 4 k)) w.size_is ∙ cut_from s at 4 h.value.at h.length w.next ∙ sym lacked.cut_is))
+        sym (ap (step_of entry size_of stop_at at (drop at s) o) (cut_of (drop at s) long (rw (length-drop, w.size_is) (omega (arith, lacked.few))))
+        ∙ ap (λ (r : Refusal). (Err r, o)) (ap (λ (k : ℕ). from at (cut_at (length (drop at s)) 4 k)) w.size_is ∙ cut_from s at 4 h.value.at h.length w.next ∙ sym lacked.cut_is))
 
     pub whole_at : (u : Unit {0}) → need_at (length s) h.value.at h.length ≡ Ok u
-        → ◌≡◌ {A = Stepped} (Ok (Whole (shown_tlv h.kind h.length h.value.at) (cursor (h.value.at + h.length)))) (step_at s at)
+        → ◌≡◌ {A = Stepped} (Ok (Whole (cursor (h.value.at + h.length))), shown_tlv h.kind h.length h.value.at) (step_at s at o)
     whole_at u q =
         let w = head in
         let met = was_met (length s) h.value.at h.length q refl in
         let end_is : at + (4 + num_at 2 (drop at s) 2) ≡ h.value.at + h.length = omega arith in
-        sym (ap (step_of entry size_of stop_at at (drop at s)) (whole_of (drop at s) long (rw (length-drop, w.size_is) (omega arith)))
-        ∙ (λ i. Ok (Whole (shown_tlv (w.kind_is i) (w.size_is i) (sym w.next i)) (cursor (end_is i)))))
+        sym (ap (step_of entry size_of stop_at at (drop at s) o) (whole_of (drop at s) long (rw (length-drop, w.size_is) (omega arith)))
+        ∙ (λ i. (Ok (Whole (cursor (end_is i))), shown_tlv (w.kind_is i) (w.size_is i) (sym w.next i))))
 
 pub ruleset answers = (brief_at, cut-at, whole_at)

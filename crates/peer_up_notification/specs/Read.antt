@@ -82,12 +82,12 @@ kit = kit_of Tlv PeerUpNotificationTlv step size_of entry zero_tlv places
 abbrev pub stop_at : ℕ → List ℕ → ℕ
 stop_at at s = at
 
--- one step at a place, as the code answers it
+-- one step at a place, as the code answers it, and the entry that it leaves
 abbrev pub Stepped : Type 0
-Stepped = Result (Step PeerUpNotificationTlv) Refusal
+Stepped = Result Step Refusal × PeerUpNotificationTlv
 
-abbrev pub step_at : List ℕ → ℕ → Stepped
-step_at s at = step_of entry size_of stop_at at (drop at s) (step (drop at s))
+abbrev pub step_at : List ℕ → ℕ → PeerUpNotificationTlv → Stepped
+step_at s at e = step_of entry size_of stop_at at (drop at s) e (step (drop at s))
 
 -- the warnings of a table's entries
 abbrev pub head_in : PeerUpNotificationTlv → Head

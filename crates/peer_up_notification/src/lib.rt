@@ -58,13 +58,6 @@ pub struct PeerUpAnswer {
 // Where the two OPENs start: behind the address and the ports.
 pub const OPENS_AT: usize = 20;
 
-// What stands in the places of the table that are not used.
-const NO_TLV: PeerUpNotificationTlv = PeerUpNotificationTlv {
-    kind: 0,
-    info_len: 0,
-    place: 0,
-};
-
 // The type of a TLV that tells the name of a table.
 const TABLE_NAME: u16 = 3;
 
@@ -136,7 +129,7 @@ pub fn parse_peer_up_notification(
     ensures { result ≡ read_peer_up afi peer_type s.now }
 {
     let (sent_open, received_open, behind) = read_opens(s)?;
-    let mut tlvs = [NO_TLV; wire::TLV_PLACES];
+    let mut tlvs = [PeerUpNotificationTlv::NONE; wire::TLV_PLACES];
     let walked = walk::walk(s, behind, s.len(), &mut tlvs)?;
     Ok(PeerUpAnswer {
         stop: walked.stop,
@@ -154,6 +147,12 @@ pub fn parse_peer_up_notification(
 }
 
 impl Entry for PeerUpNotificationTlv {
+    const NONE: PeerUpNotificationTlv = PeerUpNotificationTlv {
+        kind: 0,
+        info_len: 0,
+        place: 0,
+    };
+
     ghost Item = { Tlv };
 
     ghost step = { step };
@@ -162,25 +161,25 @@ impl Entry for PeerUpNotificationTlv {
 
     ghost entry = { entry };
 
-    ghost none = { zero_tlv };
+    ghost NONE = { zero_tlv };
 
     ghost stop_at = { stop_at };
 
     // Of the walks over TLVs only this one goes on where exactly 4 bytes are left: a last TLV may be empty.
     #[tactic(auto, using(crate::proofs::Steps::answers))]
-    fn step_at(s: &[u8], at: usize) -> Result<Step<PeerUpNotificationTlv>, Refusal> {
+    fn step_at(s: &[u8], at: usize, slot: &mut PeerUpNotificationTlv) -> Result<Step, Refusal> {
         let Some(head) = tlv_head::read_head(Cursor { at }, s, 0) else {
             return Ok(Step::Stop(at));
         };
         let place = head.value.at;
         let length = head.length as usize;
         wire::need_at(s.len(), place, length)?;
-        let tlv = PeerUpNotificationTlv {
+        *slot = PeerUpNotificationTlv {
             kind: head.kind,
             info_len: head.length,
             place: place as u32,
         };
-        Ok(Step::Whole(tlv, Cursor { at: place + length }))
+        Ok(Step::Whole(Cursor { at: place + length }))
     }
 }
 

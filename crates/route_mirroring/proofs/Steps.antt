@@ -27,6 +27,7 @@ use Rattle.cursor.specs.declared.Cursor.{Cursor}
 use Rattle.route_mirroring.specs.Grammar.{Tlv, size_of}
 use Rattle.route_mirroring.specs.Shown.{entry}
 use Rattle.route_mirroring.specs.Read.{message_of, information_of, message_step, information_step, step, stop_at, Stepped, stepped, step_at}
+use Rattle.route_mirroring.specs.declared.RouteMirroringTlv.{RouteMirroringTlv}
 use Rattle.walk.specs.Walk.{step_of}
 use Rattle.walk.specs.declared.Step.TheVariants.{Stop, Whole}
 
@@ -131,11 +132,11 @@ numbered s r (message m) q = absurd cc
 numbered s r (info i) q = absurd cc
 
 -- ---- each answer of `step_at`, by the head that was read
-module _ (s : List ℕ) (at : ℕ) where
-  pub brief_at : head_at 1 s at ≡ None → ◌≡◌ {A = Stepped} (Ok (Stop at)) (step_at s at)
+module _ (s : List ℕ) (at : ℕ) (o : RouteMirroringTlv) where
+  pub brief_at : head_at 1 s at ≡ None → ◌≡◌ {A = Stepped} (Ok (Stop at), o) (step_at s at o)
   brief_at e =
       let h = was_short 1 s at refl (sym e) in
-      sym (ap (step_of entry size_of stop_at at (drop at s)) (none_of (drop at s) (simp length-drop (omega arith))))
+      sym (ap (step_of entry size_of stop_at at (drop at s) o) (none_of (drop at s) (simp length-drop (omega arith))))
 
   module _ (h : TlvHead) (e : head_at 1 s at ≡ Some h) where
     head : Head 1 s at h
@@ -148,47 +149,47 @@ module _ (s : List ℕ) (at : ℕ) where
     pub asked : (h.length ≡ num_at 2 (drop at s) 2) × (h.value.at ≡ at + 4)
     asked = let w = head in (sym w.size_is, w.next)
 
-    pub strange_at : 1 < h.kind → ◌≡◌ {A = Stepped} (Err (refusal Number.BadTlvType at)) (step_at s at)
+    pub strange_at : 1 < h.kind → ◌≡◌ {A = Stepped} (Err (refusal Number.BadTlvType at), o) (step_at s at o)
     unfolding step
     strange_at k = let w = head in rw (lt-leb (length (drop at s)) 4 long, w.kind_is, lt-ltb 1 h.kind k, add-zero at)
 
-    pub message-at : h.kind ≡ 0 → stepped message_step s at ≡ step_at s at
-    message-at k = let w = head in sym (ap (step_of entry size_of stop_at at (drop at s)) (message-of (drop at s) long (w.kind_is ∙ k)))
+    pub message-at : h.kind ≡ 0 → stepped message_step s at o ≡ step_at s at o
+    message-at k = let w = head in sym (ap (step_of entry size_of stop_at at (drop at s) o) (message-of (drop at s) long (w.kind_is ∙ k)))
 
-    pub information-at : h.kind ≡ 1 → stepped information_step s at ≡ step_at s at
-    information-at k = let w = head in sym (ap (step_of entry size_of stop_at at (drop at s)) (information-of (drop at s) long (w.kind_is ∙ k)))
+    pub information-at : h.kind ≡ 1 → stepped information_step s at o ≡ step_at s at o
+    information-at k = let w = head in sym (ap (step_of entry size_of stop_at at (drop at s) o) (information-of (drop at s) long (w.kind_is ∙ k)))
 
 -- ---- each answer of `message_at` and of `information_at`, where the value starts at a place
-module _ (s : List ℕ) (at size place : ℕ) (asked_for : (size ≡ num_at 2 (drop at s) 2) × (place ≡ at + 4)) where
+module _ (s : List ℕ) (at size place : ℕ) (o : RouteMirroringTlv) (asked_for : (size ≡ num_at 2 (drop at s) 2) × (place ≡ at + 4)) where
   size_is : size ≡ num_at 2 (drop at s) 2
   size_is = asked_for.0
 
-  pub small_at : size < 19 → ◌≡◌ {A = Stepped} (Err (refusal Number.BgpLength (at + 2))) (stepped message_step s at)
+  pub small_at : size < 19 → ◌≡◌ {A = Stepped} (Err (refusal Number.BgpLength (at + 2)), o) (stepped message_step s at o)
   unfolding message_step
   small_at h = rw (← size_is, lt-ltb size 19 h)
 
-  pub cut-at : 19 ≤ size → (r : Refusal) → need_at (length s) place size ≡ Err r → ◌≡◌ {A = Stepped} (Err r) (stepped message_step s at)
+  pub cut-at : 19 ≤ size → (r : Refusal) → need_at (length s) place size ≡ Err r → ◌≡◌ {A = Stepped} (Err r, o) (stepped message_step s at o)
   unfolding message_step
   cut-at h r q =
       let lacked = was_cut (length s) place size q refl in
       rw (← size_is, le-ltb size 19 h, lt-ltb (length (drop at s) - 4) size (simp length-drop (omega (arith, asked_for.1, lacked.few))))
-      (ap Err (lacked.cut_is ∙ sym (cut_from s at 4 place size asked_for.1)))
+      (ap (λ (r : Refusal). (Err r, o)) (lacked.cut_is ∙ sym (cut_from s at 4 place size asked_for.1)))
 
   pub message_there : 19 ≤ size → (u : Unit {0}) → need_at (length s) place size ≡ Ok u
-      → ◌≡◌ {A = Stepped} (Ok (Whole (record { kind = 0; info_len = size; number = place }) (cursor (place + size)))) (stepped message_step s at)
+      → ◌≡◌ {A = Stepped} (Ok (Whole (cursor (place + size))), record { kind = 0; info_len = size; number = place }) (stepped message_step s at o)
   unfolding message_step
   message_there h u q =
       let met = was_met (length s) place size q refl in
       let end_is : place + size ≡ at + (4 + size) = omega (arith, asked_for.1) in
       rw (← size_is, le-ltb size 19 h, le-ltb (length (drop at s) - 4) size (simp length-drop (omega (arith, asked_for.1))))
-      (λ i. Ok (Whole (record { kind = 0; info_len = size; number = asked_for.1 i }) (cursor (end_is i))))
+      (λ i. (Ok (Whole (cursor (end_is i))), record { kind = 0; info_len = size; number = asked_for.1 i }))
 
-  pub short_at : (r : Refusal) → read 2 s place ≡ Err r → ◌≡◌ {A = Stepped} (Err r) (stepped information_step s at)
+  pub short_at : (r : Refusal) → read 2 s place ≡ Err r → ◌≡◌ {A = Stepped} (Err r, o) (stepped information_step s at o)
   unfolding information_step
   short_at r q =
       let lacked = Reading.was_cut 2 s place q refl in
       rw (lt-ltb (length (drop at s) - 4) 2 (simp length-drop (omega (arith, asked_for.1, lacked.few))))
-      (ap Err (lacked.cut_is ∙ sym (cut_from s at 4 place 2 asked_for.1)))
+      (ap (λ (r : Refusal). (Err r, o)) (lacked.cut_is ∙ sym (cut_from s at 4 place 2 asked_for.1)))
 
   module _ (code : ℕ) (c : Cursor) (q : read 2 s place ≡ Ok (code, c)) where
     got : Was 2 s place code c
@@ -197,12 +198,12 @@ module _ (s : List ℕ) (at size place : ℕ) (asked_for : (size ≡ num_at 2 (d
     there : 2 ≤ length (drop at s) - 4
     there = let g = got in simp length-drop (omega (arith, asked_for.1, g.left))
 
-    pub unknown_at : 1 < code → ◌≡◌ {A = Stepped} (Err (refusal Number.UnknownKind place)) (stepped information_step s at)
+    pub unknown_at : 1 < code → ◌≡◌ {A = Stepped} (Err (refusal Number.UnknownKind place), o) (stepped information_step s at o)
     unfolding information_step
     unknown_at h = rw (le-ltb (length (drop at s) - 4) 2 there, was_in at 4 asked_for.1 got, lt-ltb 1 code h, asked_for.1)
 
     pub information_there : code ≤ 1
-        → ◌≡◌ {A = Stepped} (Ok (Whole (record { kind = 1; info_len = size; number = code }) c)) (stepped information_step s at)
+        → ◌≡◌ {A = Stepped} (Ok (Whole c), record { kind = 1; info_len = size; number = code }) (stepped information_step s at o)
     unfolding information_step
     information_there h =
         let g = got in

@@ -52,15 +52,15 @@ kit = kit_of Tlv RouteMirroringTlv step size_of entry zero_tlv places
 abbrev pub stop_at : ℕ → List ℕ → ℕ
 stop_at at s = at
 
--- one step at a place, as the code answers it: the whole, or that of one type
+-- one step at a place, as the code answers it, and the entry that it leaves: the whole, or that of one type
 abbrev pub Stepped : Type 0
-Stepped = Result (Step RouteMirroringTlv) Refusal
+Stepped = Result Step Refusal × RouteMirroringTlv
 
-abbrev pub stepped : (List ℕ → Walk.Step Tlv) → List ℕ → ℕ → Stepped
-stepped look s at = step_of entry size_of stop_at at (drop at s) (look (drop at s))
+abbrev pub stepped : (List ℕ → Walk.Step Tlv) → List ℕ → ℕ → RouteMirroringTlv → Stepped
+stepped look s at e = step_of entry size_of stop_at at (drop at s) e (look (drop at s))
 
-abbrev pub step_at : List ℕ → ℕ → Stepped
-step_at s at = stepped step s at
+abbrev pub step_at : List ℕ → ℕ → RouteMirroringTlv → Stepped
+step_at s at e = stepped step s at e
 
 abbrev pub answer : Out RouteMirroringTlv → ReadMirroring
 answer (good n at table z) = good_answer n at table

@@ -79,12 +79,7 @@ impl RouteMirroringTlv {
 pub fn parse_route_mirroring(s: &[u8]) -> Result<RouteMirroringAnswer, Refusal>
     ensures { result ≡ read_mirroring s.now }
 {
-    let none = RouteMirroringTlv {
-        kind: 0,
-        info_len: 0,
-        number: 0,
-    };
-    let mut tlvs = [none; wire::TLV_PLACES];
+    let mut tlvs = [RouteMirroringTlv::NONE; wire::TLV_PLACES];
     let walked = walk::walk(s, 0, s.len(), &mut tlvs)?;
     Ok(RouteMirroringAnswer {
         stop: walked.stop,
@@ -96,6 +91,12 @@ pub fn parse_route_mirroring(s: &[u8]) -> Result<RouteMirroringAnswer, Refusal>
 }
 
 impl Entry for RouteMirroringTlv {
+    const NONE: RouteMirroringTlv = RouteMirroringTlv {
+        kind: 0,
+        info_len: 0,
+        number: 0,
+    };
+
     ghost Item = { Tlv };
 
     ghost step = { step };
@@ -104,19 +105,19 @@ impl Entry for RouteMirroringTlv {
 
     ghost entry = { entry };
 
-    ghost none = { zero_tlv };
+    ghost NONE = { zero_tlv };
 
     ghost stop_at = { stop_at };
 
     // A TLV is read while more than a head is left; its type is judged first.
     #[tactic(auto, using(crate::proofs::Steps::step_answers))]
-    fn step_at(s: &[u8], at: usize) -> Result<Step<RouteMirroringTlv>, Refusal> {
+    fn step_at(s: &[u8], at: usize, slot: &mut RouteMirroringTlv) -> Result<Step, Refusal> {
         let Some(head) = tlv_head::read_head(Cursor { at }, s, 1) else {
             return Ok(Step::Stop(at));
         };
         match head.kind {
-            0 => message_at(s, at, head.length, head.value),
-            1 => information_at(s, at, head.length, head.value),
+            0 => message_at(s, at, head.length, head.value, slot),
+            1 => information_at(s, at, head.length, head.value, slot),
             _ => Err(wire::refusal_at(wire::BAD_TLV_TYPE, at)),
         }
     }
@@ -129,10 +130,11 @@ fn message_at(
     at: usize,
     info_len: u16,
     value: Cursor,
-) -> Result<Step<RouteMirroringTlv>, Refusal>
+    slot: &mut RouteMirroringTlv,
+) -> Result<Step, Refusal>
     requires s_len_bound { length s.now ≤ Number.limit }
     requires info_len_value { (info_len ≡ num_at 2 (drop at s.now) 2) × (value.at ≡ at + 4) }
-    ensures { result ≡ stepped message_step s.now at }
+    ensures { (result, slot.new) ≡ stepped message_step s.now at slot.old }
 {
     let place = value.at;
     let length = info_len as usize;
@@ -140,12 +142,12 @@ fn message_at(
         return Err(wire::refusal_at(wire::BGP_LENGTH, at + 2));
     }
     wire::need_at(s.len(), place, length)?;
-    let tlv = RouteMirroringTlv {
+    *slot = RouteMirroringTlv {
         kind: 0,
         info_len,
         number: place as u32,
     };
-    Ok(Step::Whole(tlv, Cursor { at: place + length }))
+    Ok(Step::Whole(Cursor { at: place + length }))
 }
 
 // Information behind type and length: two bytes, whatever the length says.
@@ -155,20 +157,21 @@ fn information_at(
     at: usize,
     info_len: u16,
     value: Cursor,
-) -> Result<Step<RouteMirroringTlv>, Refusal>
+    slot: &mut RouteMirroringTlv,
+) -> Result<Step, Refusal>
     requires { (info_len ≡ num_at 2 (drop at s.now) 2) × (value.at ≡ at + 4) }
-    ensures { result ≡ stepped information_step s.now at }
+    ensures { (result, slot.new) ≡ stepped information_step s.now at slot.old }
 {
     let (code, next) = value.read::<u16>(s)?;
     if 1 < code {
         return Err(wire::refusal_at(wire::UNKNOWN_KIND, value.at));
     }
-    let tlv = RouteMirroringTlv {
+    *slot = RouteMirroringTlv {
         kind: 1,
         info_len,
         number: code as u32,
     };
-    Ok(Step::Whole(tlv, next))
+    Ok(Step::Whole(next))
 }
 
 // The name of a code that the reader keeps; any other code has the last name.

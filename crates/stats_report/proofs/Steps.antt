@@ -28,6 +28,7 @@ use Rattle.stats_data.specs.Shown.{afi_of, safi_of, number_of, ReadData}
 use Rattle.stats_data.specs.Read.{value_of, read_data}
 use Rattle.stats_data.proofs.Values.{was_data, no_data}
 use Rattle.stats_report.specs.Read.{as_stat, step, head_cut, stop_at, Stepped, step_at}
+use Rattle.stats_report.specs.declared.StatCounter.{StatCounter}
 use Rattle.walk.specs.Walk.{step_of}
 use Rattle.walk.specs.declared.Step.TheVariants.{Whole}
 
@@ -80,21 +81,21 @@ is_fault s r (no_value h k) q = let z : cut_at (length s) 4 (num_at 2 s 2) ≡ r
 is_fault s r (whole h k) q = let z : ◌≡◌ {A = ℕ} 0 1 = cc in absurd (omega arith)
 
 -- ---- each answer of `step_at`, by the head and the data that were read
-module _ (s : List ℕ) (at : ℕ) where
-  pub no_head_at : head_at 0 s at ≡ None → ◌≡◌ {A = Stepped} (Err (head_cut s at)) (step_at s at)
+module _ (s : List ℕ) (at : ℕ) (o : StatCounter) where
+  pub no_head_at : head_at 0 s at ≡ None → ◌≡◌ {A = Stepped} (Err (head_cut s at), o) (step_at s at o)
   no_head_at e = sym (go (leb 2 (length s - at)) refl)
     where
       few : length s - at < 4
       few = let h = was_short 0 s at refl (sym e) in omega arith
 
-      go : (x : Bool) → leb 2 (length s - at) ≡ x → step_at s at ≡ Err (head_cut s at)
+      go : (x : Bool) → leb 2 (length s - at) ≡ x → step_at s at o ≡ (Err (head_cut s at), o)
       go true h =
           let two = leb-true 2 (length s - at) h in
           rw (of (drop at s) (no_length (simp length-drop (omega arith)) (simp length-drop few)), h, lt-leb 2 (length s - (at + 2)) (omega (arith, few)))
-          (ap Err (cut_from s at 2 (at + 2) 2 refl))
+          (ap (λ (r : Refusal). (Err r, o)) (cut_from s at 2 (at + 2) 2 refl))
       go false h =
           let less = leb-false 2 (length s - at) h in
-          rw (of (drop at s) (no_type (simp length-drop (omega arith))), h) (ap Err (cut_from s at 0 at 2 (sym (add-zero at))))
+          rw (of (drop at s) (no_type (simp length-drop (omega arith))), h) (ap (λ (r : Refusal). (Err r, o)) (cut_from s at 0 at 2 (sym (add-zero at))))
 
   module _ (h : TlvHead) (e : head_at 0 s at ≡ Some h) where
     head : Head 0 s at h
@@ -103,15 +104,15 @@ module _ (s : List ℕ) (at : ℕ) where
     long : 4 ≤ length (drop at s)
     long = let w = head in simp length-drop (omega arith)
 
-    pub no_value_at : (r : Refusal) → ◌≡◌ {A = ReadData} (read_data h.length s h.value.at) (Err r) → ◌≡◌ {A = Stepped} (Err r) (step_at s at)
+    pub no_value_at : (r : Refusal) → ◌≡◌ {A = ReadData} (read_data h.length s h.value.at) (Err r) → ◌≡◌ {A = Stepped} (Err r, o) (step_at s at o)
     no_value_at r q =
         let w = head in
         let n = no_data h.length s h.value.at r (sym q) in
-        sym (ap (step_of entry size_of stop_at at (drop at s)) (of (drop at s) (no_value long (rw (length-drop, w.size_is) (omega (arith, n.0)))))
-        ∙ ap Err (ap (λ (k : ℕ). from at (cut_at (length (drop at s)) 4 k)) w.size_is ∙ cut_from s at 4 h.value.at h.length w.next ∙ sym n.1))
+        sym (ap (step_of entry size_of stop_at at (drop at s) o) (of (drop at s) (no_value long (rw (length-drop, w.size_is) (omega (arith, n.0)))))
+        ∙ ap (λ (r : Refusal). (Err r, o)) (ap (λ (k : ℕ). from at (cut_at (length (drop at s)) 4 k)) w.size_is ∙ cut_from s at 4 h.value.at h.length w.next ∙ sym n.1))
 
     pub whole_at : (afi safi n : ℕ) (c : Cursor) → ◌≡◌ {A = ReadData} (read_data h.length s h.value.at) (Ok (afi, safi, n, c))
-        → ◌≡◌ {A = Stepped} (Ok (Whole (record { kind = h.kind; stat_len = h.length; afi = afi; safi = safi; value = n }) c)) (step_at s at)
+        → ◌≡◌ {A = Stepped} (Ok (Whole c), record { kind = h.kind; stat_len = h.length; afi = afi; safi = safi; value = n }) (step_at s at o)
     whole_at afi safi n c q =
         let w = head in
         let x = drop at s in
@@ -123,7 +124,7 @@ module _ (s : List ℕ) (at : ℕ) where
         let number-so : number_of (at + 4) (value_of (num_at 2 x 2) (take (num_at 2 x 2) (drop 4 x))) ≡ n =
         ap (number_of (at + 4)) v ∙ ap (λ (p : ℕ). number_of p (value_of h.length (take h.length (drop h.value.at s)))) (sym w.next) ∙ sym d.number_is in
         let end_is : at + (4 + num_at 2 x 2) ≡ c.at = omega (arith, w.next, w.size_is, d.next) in
-        sym (ap (step_of entry size_of stop_at at x) (of x (whole long (rw (length-drop, w.size_is) (omega (arith, d.left, w.next)))))
-        ∙ (λ i. Ok (Whole (record { kind = w.kind_is i; stat_len = w.size_is i; afi = afi-so i; safi = safi-so i; value = number-so i }) (record { at = end_is i }))))
+        sym (ap (step_of entry size_of stop_at at x o) (of x (whole long (rw (length-drop, w.size_is) (omega (arith, d.left, w.next)))))
+        ∙ (λ i. (Ok (Whole (record { at = end_is i })), record { kind = w.kind_is i; stat_len = w.size_is i; afi = afi-so i; safi = safi-so i; value = number-so i })))
 
 pub ruleset answers = (no_head_at, no_value_at, whole_at)

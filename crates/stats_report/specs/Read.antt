@@ -46,12 +46,12 @@ head_cut s at = cut_in (2 ∷ 2 ∷ []) at (length s)
 abbrev pub stop_at : ℕ → List ℕ → ℕ
 stop_at at s = at
 
--- one step at a place, as the code answers it
+-- one step at a place, as the code answers it, and the entry that it leaves
 abbrev pub Stepped : Type 0
-Stepped = Result (Step StatCounter) Refusal
+Stepped = Result Step Refusal × StatCounter
 
-abbrev pub step_at : List ℕ → ℕ → Stepped
-step_at s at = step_of entry size_of stop_at at (drop at s) (step (drop at s))
+abbrev pub step_at : List ℕ → ℕ → StatCounter → Stepped
+step_at s at e = step_of entry size_of stop_at at (drop at s) e (step (drop at s))
 
 abbrev pub answer : ℕ → Out StatCounter → ReadStats
 answer total (good n at table z) = good_answer total n at table

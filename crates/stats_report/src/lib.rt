@@ -63,14 +63,7 @@ pub fn parse_stats_report(s: &[u8]) -> Result<StatsAnswer, Refusal>
     ensures { result ≡ read_stats s.now }
 {
     let (stats_count, behind) = read_count(s)?;
-    let none = StatCounter {
-        kind: 0,
-        stat_len: 0,
-        afi: 0,
-        safi: 0,
-        value: 0,
-    };
-    let mut counters = [none; COUNTER_PLACES];
+    let mut counters = [StatCounter::NONE; COUNTER_PLACES];
     let walked = walk::walk(s, behind.at, stats_count as usize, &mut counters)?;
     Ok(StatsAnswer {
         stop: walked.end,
@@ -83,6 +76,14 @@ pub fn parse_stats_report(s: &[u8]) -> Result<StatsAnswer, Refusal>
 }
 
 impl Entry for StatCounter {
+    const NONE: StatCounter = StatCounter {
+        kind: 0,
+        stat_len: 0,
+        afi: 0,
+        safi: 0,
+        value: 0,
+    };
+
     ghost Item = { Stat };
 
     ghost step = { step };
@@ -91,25 +92,25 @@ impl Entry for StatCounter {
 
     ghost entry = { entry };
 
-    ghost none = { zero_counter };
+    ghost NONE = { zero_counter };
 
     ghost stop_at = { stop_at };
 
     // The record that stands at a place, or the field that lacks bytes: the walk does not stop before the count.
     #[tactic(auto, using(crate::proofs::Steps::answers))]
-    fn step_at(s: &[u8], at: usize) -> Result<Step<StatCounter>, Refusal> {
+    fn step_at(s: &[u8], at: usize, slot: &mut StatCounter) -> Result<Step, Refusal> {
         let Some(head) = tlv_head::read_head(Cursor { at }, s, 0) else {
             return Err(head_cut(s, at));
         };
         let (afi, safi, value, next) = stats_data::read_data(s, head.value, head.length)?;
-        let counter = StatCounter {
+        *slot = StatCounter {
             kind: head.kind,
             stat_len: head.length,
             afi,
             safi,
             value,
         };
-        Ok(Step::Whole(counter, next))
+        Ok(Step::Whole(next))
     }
 }
 

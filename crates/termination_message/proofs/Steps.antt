@@ -29,6 +29,7 @@ use Rattle.tlv_head.proofs.Heads.{Head, was_found, was_short}
 use Rattle.termination_message.specs.Grammar.{Tlv, size_of}
 use Rattle.termination_message.specs.Shown.{entry}
 use Rattle.termination_message.specs.Read.{string_in, reason_in, step, stop_behind, StepAnswer, step_at}
+use Rattle.termination_message.specs.declared.TerminationTlv.{TerminationTlv}
 use Rattle.walk.specs.Walk.{step_of}
 use Rattle.walk.specs.declared.Step.TheVariants.{Stop, Whole}
 
@@ -132,8 +133,8 @@ by_item s P f g t e = go (see s) e
     go (known b l m) q = let y : reason_in s ≡ t = cc in subst P y (g b l m)
 
 -- ---- each answer of `step_at`, by the head and the number that were read
-module _ (s : List ℕ) (at : ℕ) where
-  pub brief_at : head_at 1 s at ≡ None → ◌≡◌ {A = StepAnswer} (Ok (Stop at)) (step_at s at)
+module _ (s : List ℕ) (at : ℕ) (o : TerminationTlv) where
+  pub brief_at : head_at 1 s at ≡ None → ◌≡◌ {A = StepAnswer} (Ok (Stop at), o) (step_at s at o)
   brief_at e =
       let h = was_short 1 s at refl (sym e) in
       let l : length (drop at s) ≤ 4 = simp length-drop (omega arith) in
@@ -146,10 +147,10 @@ module _ (s : List ℕ) (at : ℕ) where
     long : 4 < length (drop at s)
     long = let w = head in simp length-drop (omega arith)
 
-    pub strange_at : 1 < h.kind → ◌≡◌ {A = StepAnswer} (Err (refusal Number.UnknownKind at)) (step_at s at)
+    pub strange_at : 1 < h.kind → ◌≡◌ {A = StepAnswer} (Err (refusal Number.UnknownKind at), o) (step_at s at o)
     strange_at k = let w = head in rw (of (drop at s) (strange long (rw w.kind_is k)), add-zero at)
 
-    pub beyond_at : h.kind ≤ 1 → length s < h.value.at + h.length → ◌≡◌ {A = StepAnswer} (Ok (Stop h.value.at)) (step_at s at)
+    pub beyond_at : h.kind ≤ 1 → length s < h.value.at + h.length → ◌≡◌ {A = StepAnswer} (Ok (Stop h.value.at), o) (step_at s at o)
     beyond_at k l =
         let w = head in
         rw (of (drop at s) (none (inr (long, rw (length-drop, w.size_is) (omega arith))) (λ m. rw w.kind_is k)), lt-leb (length (drop at s)) 4 long, w.next)
@@ -159,37 +160,37 @@ module _ (s : List ℕ) (at : ℕ) where
       begun k e = let w = head in record { long = long; kind_is = w.kind_is ∙ e; there = rw (length-drop, w.size_is) (omega arith) }
 
       pub string_at : h.kind ≡ 0
-          → ◌≡◌ {A = StepAnswer} (Ok (Whole (record { kind = h.kind; info_len = h.length; number = h.value.at }) (cursor (h.value.at + h.length)))) (step_at s at)
+          → ◌≡◌ {A = StepAnswer} (Ok (Whole (cursor (h.value.at + h.length))), record { kind = h.kind; info_len = h.length; number = h.value.at }) (step_at s at o)
       string_at k =
           let w = head in
           let there : at + (4 + num_at 2 (drop at s) 2) ≡ h.value.at + h.length = omega arith in
-          sym (ap (step_of entry size_of stop_behind at (drop at s)) (of (drop at s) (text (begun 0 k)))
-          ∙ (λ i. Ok (Whole (record { kind = sym k i; info_len = w.size_is i; number = sym w.next i }) (cursor (there i)))))
+          sym (ap (step_of entry size_of stop_behind at (drop at s) o) (of (drop at s) (text (begun 0 k)))
+          ∙ (λ i. (Ok (Whole (cursor (there i))), record { kind = sym k i; info_len = w.size_is i; number = sym w.next i })))
 
-      pub lacking_at : h.kind ≢ 0 → h.kind ≤ 1 → (r : Refusal) → read 2 s h.value.at ≡ Err r → ◌≡◌ {A = StepAnswer} (Err r) (step_at s at)
+      pub lacking_at : h.kind ≢ 0 → h.kind ≤ 1 → (r : Refusal) → read 2 s h.value.at ≡ Err r → ◌≡◌ {A = StepAnswer} (Err r, o) (step_at s at o)
       lacking_at m n r q =
           let w = head in
           let lacked = was_cut 2 s h.value.at q refl in
-          sym (ap (step_of entry size_of stop_behind at (drop at s)) (of (drop at s) (lacking (begun 1 (omega arith)) (rw length-drop (omega (arith, lacked.few)))))
-          ∙ ap Err (cut_from s at 4 h.value.at 2 w.next ∙ sym lacked.cut_is))
+          sym (ap (step_of entry size_of stop_behind at (drop at s) o) (of (drop at s) (lacking (begun 1 (omega arith)) (rw length-drop (omega (arith, lacked.few)))))
+          ∙ ap (λ (r : Refusal). (Err r, o)) (cut_from s at 4 h.value.at 2 w.next ∙ sym lacked.cut_is))
 
       module _ (m : h.kind ≢ 0) (n : h.kind ≤ 1) (code : ℕ) (c : Cursor) (q : read 2 s h.value.at ≡ Ok (code, c)) where
-        pub unknown_at : 4 < code → ◌≡◌ {A = StepAnswer} (Err (refusal Number.UnknownKind h.value.at)) (step_at s at)
+        pub unknown_at : 4 < code → ◌≡◌ {A = StepAnswer} (Err (refusal Number.UnknownKind h.value.at), o) (step_at s at o)
         unknown_at l =
             let w = head in
             let g = was_got 2 s h.value.at q refl in
             rw (of (drop at s) (unknown (begun 1 (omega arith)) (rw length-drop (omega arith)) (rw (was_in at 4 w.next g) l)), w.next)
 
         pub known_at : code ≤ 4
-            → ◌≡◌ {A = StepAnswer} (Ok (Whole (record { kind = h.kind; info_len = h.length; number = code }) c)) (step_at s at)
+            → ◌≡◌ {A = StepAnswer} (Ok (Whole c), record { kind = h.kind; info_len = h.length; number = code }) (step_at s at o)
         known_at l =
             let w = head in
             let g = was_got 2 s h.value.at q refl in
             let code_is = was_in at 4 w.next g in
             let one : h.kind ≡ 1 = omega arith in
             let there : at + 6 ≡ c.at = omega arith in
-            sym (ap (step_of entry size_of stop_behind at (drop at s)) (of (drop at s) (known (begun 1 one) (rw length-drop (omega arith)) (rw code_is l)))
-            ∙ (λ i. Ok (Whole (record { kind = sym one i; info_len = w.size_is i; number = code_is i }) (cursor (there i)))))
+            sym (ap (step_of entry size_of stop_behind at (drop at s) o) (of (drop at s) (known (begun 1 one) (rw length-drop (omega arith)) (rw code_is l)))
+            ∙ (λ i. (Ok (Whole (cursor (there i))), record { kind = sym one i; info_len = w.size_is i; number = code_is i })))
 
 -- those that it finds by itself
 pub ruleset answers = (brief_at, strange_at, beyond_at, lacking_at, unknown_at)

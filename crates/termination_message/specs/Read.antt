@@ -43,12 +43,12 @@ kit = kit_of Tlv TerminationTlv step size_of entry zero_tlv places
 abbrev pub stop_behind : ℕ → List ℕ → ℕ
 stop_behind at s = stop_at at (tail_of s)
 
--- one step at a place, as the code answers it
+-- one step at a place, as the code answers it, and the entry that it leaves
 abbrev pub StepAnswer : Type 0
-StepAnswer = Result (Step TerminationTlv) Refusal
+StepAnswer = Result Step Refusal × TerminationTlv
 
-abbrev pub step_at : List ℕ → ℕ → StepAnswer
-step_at s at = step_of entry size_of stop_behind at (drop at s) (step (drop at s))
+abbrev pub step_at : List ℕ → ℕ → TerminationTlv → StepAnswer
+step_at s at e = step_of entry size_of stop_behind at (drop at s) e (step (drop at s))
 
 abbrev pub answer : Out TerminationTlv → ReadTermination
 answer (good n at table z) = good_answer n at table (tail_of z)

@@ -104,12 +104,7 @@ impl TerminationTlvValue {
 pub fn parse_termination_message(s: &[u8]) -> Result<TerminationAnswer, Refusal>
     ensures { result ≡ read_termination s.now }
 {
-    let none = TerminationTlv {
-        kind: 0,
-        info_len: 0,
-        number: 0,
-    };
-    let mut tlvs = [none; wire::TLV_PLACES];
+    let mut tlvs = [TerminationTlv::NONE; wire::TLV_PLACES];
     let walked = walk::walk(s, 0, s.len(), &mut tlvs)?;
     Ok(TerminationAnswer {
         stop: walked.stop,
@@ -122,6 +117,12 @@ pub fn parse_termination_message(s: &[u8]) -> Result<TerminationAnswer, Refusal>
 }
 
 impl Entry for TerminationTlv {
+    const NONE: TerminationTlv = TerminationTlv {
+        kind: 0,
+        info_len: 0,
+        number: 0,
+    };
+
     ghost Item = { Tlv };
 
     ghost step = { step };
@@ -130,13 +131,13 @@ impl Entry for TerminationTlv {
 
     ghost entry = { entry };
 
-    ghost none = { zero_tlv };
+    ghost NONE = { zero_tlv };
 
     ghost stop_at = { stop_behind };
 
     // The type is judged before the length. A Reason ends behind its two bytes, and not where its length says.
     #[tactic(auto, using(crate::proofs::Steps::answers))]
-    fn step_at(s: &[u8], at: usize) -> Result<Step<TerminationTlv>, Refusal> {
+    fn step_at(s: &[u8], at: usize, slot: &mut TerminationTlv) -> Result<Step, Refusal> {
         let Some(head) = tlv_head::read_head(Cursor { at }, s, 1) else {
             return Ok(Step::Stop(at));
         };
@@ -151,23 +152,23 @@ impl Entry for TerminationTlv {
             return Ok(Step::Stop(place));
         }
         if kind == 0 {
-            let tlv = TerminationTlv {
+            *slot = TerminationTlv {
                 kind,
                 info_len,
                 number: place as u32,
             };
-            return Ok(Step::Whole(tlv, Cursor { at: end }));
+            return Ok(Step::Whole(Cursor { at: end }));
         }
         let (code, next) = head.value.read::<u16>(s)?;
         if 4 < code {
             return Err(wire::refusal_at(wire::UNKNOWN_KIND, place));
         }
-        let tlv = TerminationTlv {
+        *slot = TerminationTlv {
             kind,
             info_len,
             number: code as u32,
         };
-        Ok(Step::Whole(tlv, next))
+        Ok(Step::Whole(next))
     }
 }
 

@@ -8,7 +8,7 @@ use borrow.Author.Tests.{leb-true, leb-false, ltb-false}
 use lib.Dec.{leb, ltb}
 use lib.ListN.{length, drop, set, length-set, drop_of_length-le}
 use Rattle.std.specs.declared.result.Result.{Result}
-use Rattle.std.specs.declared.result.Result.TheVariants.{Ok}
+use Rattle.std.specs.declared.result.Result.TheVariants.{Ok, Err}
 use Rattle.wire.specs.Number as Number
 use Rattle.wire.specs.Bytes.{pick}
 use Rattle.wire.specs.Refusal.{refusal}
@@ -17,7 +17,7 @@ use Rattle.wire.specs.Walk.{stop, bad, item, Kit, Out, good, refused, resume}
 use Rattle.wire.specs.declared.Refusal.{Refusal}
 use Rattle.wire.proofs.Waits.{said}
 use Rattle.wire.proofs.Walk.{Takes, resume_done, resume_stop, resume_bad, resume_full, resume_room}
-use Rattle.walk.specs.Walk.{handed, outcome, Walks}
+use Rattle.walk.specs.Walk.{handed, StopsAt, outcome, Walks}
 use Rattle.walk.specs.declared.Walked.{Walked}
 
 -- what a good outcome says
@@ -109,3 +109,20 @@ module _ (K : Kit) (s : List ℕ) where
       go : (b : Bool) → Held K (length old) (pick b (refused (refusal Number.TooLong 0)) (resume K most 0 start old s))
       go true = tt
       go false = held most 0 start old (omega arith)
+
+-- ---- what a walk answers and what it leaves of the table is determined, where it is refused too
+module _ (K : Kit) (stop_at : ℕ → List ℕ → ℕ) (most start : ℕ) (s : List ℕ) (old : List K.Entry) where
+  pub walk_determined : (r q : Result Walked Refusal) (new other : List K.Entry)
+      → Walks K stop_at most start s old r new → Walks K stop_at most start s old q other → (r ≡ q) × (new ≡ other)
+  walk_determined r q new other v w = (go r q v.stops w.stops (v.handed_back ∙ sym w.handed_back), v.leaves ∙ sym w.leaves)
+    where
+      go : (r q : Result Walked Refusal) → StopsAt stop_at most s r → StopsAt stop_at most s q → handed s r new ≡ handed s q other → r ≡ q
+      go (Ok a) (Ok b) f g e =
+          let count_is = ap count_in e in
+          let end_is = ap end_in e in
+          let stop_is : a.stop ≡ b.stop =
+          f ∙ (λ i. pick (ltb (count_is i) most) (stop_at (end_is i) (drop (end_is i) s)) (end_is i)) ∙ sym g in
+          (λ i. Ok (record { count = count_is i; end = end_is i; stop = stop_is i }))
+      go (Ok a) (Err q) f g e = let z : ◌≡◌ {A = ℕ} 0 1 = cc in absurd (omega arith)
+      go (Err r) (Ok b) f g e = let z : ◌≡◌ {A = ℕ} 0 1 = cc in absurd (omega arith)
+      go (Err r) (Err q) f g e = let same : r ≡ q = cc in ap Err same

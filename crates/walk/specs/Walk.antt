@@ -1,10 +1,10 @@
 -- A walk over the items of a body, as the code goes it: the walk of wire's definitions, its entries put into a lent table.
-use Rattle.std.specs.Prelude.{ℕ, ◌+◌, ◌≡◌, List, length, drop, ltb, Result, Ok, Err}
+use Rattle.std.specs.Prelude.{ℕ, ◌+◌, ◌≡◌, List, [], ◌∷◌, length, drop, set, leb, ltb, Result, Ok, Err}
 use Rattle.wire.specs.Bytes.{pick}
 use Rattle.wire.specs.Refusal.{refusal}
 use Rattle.wire.specs.Number as Number
 use Rattle.wire.specs.Walk as Wire
-use Rattle.wire.specs.Walk.{stop, bad, item, from, Kit, Out, good, refused, resume}
+use Rattle.wire.specs.Walk.{stop, bad, item, from, walk, Kit, Out, good, refused, resume}
 use Rattle.wire.specs.declared.Refusal.{Refusal}
 use Rattle.cursor.specs.Read.{cursor}
 use Rattle.walk.specs.declared.Step.{Step}
@@ -16,11 +16,11 @@ abbrev pub kit_of : (I E : Type 0) → (List ℕ → Wire.Step I) → (I → ℕ
 kit_of I E step size entry none limit = record { Item = I; Entry = E; step = step; size = size; entry = entry; none = none; limit = limit }
 
 -- what stands at a place, as the code answers it: the place where the walk stops, which may lie behind the head of what is not whole; a fault; or
--- the entry that shows the item there, and the cursor past it
-abbrev pub step_of : {I E : Type 0} → (ℕ → I → E) → (I → ℕ) → (ℕ → List ℕ → ℕ) → ℕ → List ℕ → Wire.Step I → Result (Step E) Refusal
-step_of entry size stop_at at s stop = Ok (Stop (stop_at at s))
-step_of entry size stop_at at s (bad r) = Err (from at r)
-step_of entry size stop_at at s (item t) = Ok (Whole (entry at t) (cursor (at + size t)))
+-- the cursor past the item there. Beside it what the entry holds that was lent: the item's, or what it held
+abbrev pub step_of : {I E : Type 0} → (ℕ → I → E) → (I → ℕ) → (ℕ → List ℕ → ℕ) → ℕ → List ℕ → E → Wire.Step I → Result Step Refusal × E
+step_of entry size stop_at at s e stop = (Ok (Stop (stop_at at s)), e)
+step_of entry size stop_at at s e (bad r) = (Err (from at r), e)
+step_of entry size stop_at at s e (item t) = (Ok (Whole (cursor (at + size t))), entry at t)
 
 -- an answer and the table, as what a walk hands back
 abbrev pub handed : {E : Type 0} → List ℕ → Result Walked Refusal → List E → Out E
@@ -36,6 +36,18 @@ StopsAt stop_at most s (Err r) = Unit {0}
 abbrev pub outcome : (K : Kit) → ℕ → ℕ → List K.Entry → List ℕ → Out K.Entry
 outcome K most start table s = pick (ltb Number.limit (length s)) (refused (refusal Number.TooLong 0)) (resume K most 0 start table s)
 
+-- the entries of these items put into the table from entry n on, as far as it goes
+unfoldable pub filled : (K : Kit) → ℕ → ℕ → List K.Entry → List K.Item → List K.Entry
+filled K n at table [] = table
+filled K n at table (a ∷ l) =
+    pick (leb K.limit n) table (filled K (n + 1) (at + K.size a) (set table n (K.entry at a)) l)
+
+-- the table that a walk leaves, also where it is refused: the entries of all items in front of its end
+abbrev pub left_in : (K : Kit) → ℕ → ℕ → List K.Entry → List ℕ → List K.Entry
+left_in K most start table s =
+    pick (ltb Number.limit (length s)) table (filled K 0 start table (walk K most (drop start s)).items)
+
 pub record Walks (K : Kit) (stop_at : ℕ → List ℕ → ℕ) (most start : ℕ) (s : List ℕ) (old : List K.Entry) (r : Result Walked Refusal) (new : List K.Entry) : Type 0 where
   pub handed_back : handed s r new ≡ outcome K most start old s
+  pub leaves : new ≡ left_in K most start old s
   pub stops : StopsAt stop_at most s r

@@ -9,11 +9,11 @@ ghost use Rattle.walk.specs.Walk.{kit_of, step_of, Walks};
 use cursor::Cursor;
 use wire::Refusal;
 
-// What stands at a place of the walk: its end, with the place where it stops; or an entry for the table, and the cursor past its item.
+// What stands at a place of the walk: its end, with the place where it stops; or an item, with the cursor past it.
 #[derive(Clone, Copy)]
-pub enum Step<E> {
+pub enum Step {
     Stop(usize),
-    Whole(E, Cursor),
+    Whole(Cursor),
 }
 
 // How many entries were filled, where the last of their items ends, and where the walk stopped.
@@ -26,6 +26,9 @@ pub struct Walked {
 
 // An entry of a table, and how the next one is found. The walk asks for steps only where the input is no longer than is read.
 pub trait Entry: Copy {
+    // What an entry is that shows no item.
+    const NONE: Self;
+
     ghost Item: { Type 0 };
 
     ghost step: { List ℕ → Wire.Step Item };
@@ -34,13 +37,15 @@ pub trait Entry: Copy {
 
     ghost entry: { ℕ → Item → Self };
 
-    ghost none: { Self };
+    ghost NONE: { Self };
 
     ghost stop_at: { ℕ → List ℕ → ℕ };
 
-    fn step_at(s: &[u8], at: usize) -> Result<Step<Self>, Refusal>
+    // The entry that shows the item is put into the one that is lent: handed back beside a place it would go over the stack. What is no item
+    // changes nothing.
+    fn step_at(s: &[u8], at: usize, slot: &mut Self) -> Result<Step, Refusal>
         requires { length s.now ≤ Number.limit }
-        ensures { result ≡ step_of entry size stop_at at (drop at s.now) (step (drop at s.now)) };
+        ensures { (result, slot.new) ≡ step_of entry size stop_at at (drop at s.now) slot.old (step (drop at s.now)) };
 }
 
 // Walks from a place on over at most so many items; one more than the table holds is refused.
@@ -50,14 +55,15 @@ pub fn walk<E: Entry>(
     most: usize,
     table: &mut [E],
 ) -> Result<Walked, Refusal>
-    ensures { Walks (kit_of E.Item E E.step E.size E.entry E.none (length table.old)) E.stop_at most start s.now table.old result table.new }
+    ensures { Walks (kit_of E.Item E E.step E.size E.entry E.NONE (length table.old)) E.stop_at most start s.now table.old result table.new }
 {
     if wire::LIMIT < s.len() {
         return Err(wire::refusal_at(wire::TOO_LONG, 0));
     }
     let mut at = start;
     for count in 0..most {
-        match E::step_at(s, at)? {
+        let mut entry = E::NONE;
+        match E::step_at(s, at, &mut entry)? {
             Step::Stop(stop) => {
                 return Ok(Walked {
                     count,
@@ -65,7 +71,7 @@ pub fn walk<E: Entry>(
                     stop,
                 });
             }
-            Step::Whole(entry, next) => {
+            Step::Whole(next) => {
                 if table.len() <= count {
                     return Err(wire::refusal_at(wire::TOO_MANY, at));
                 }
