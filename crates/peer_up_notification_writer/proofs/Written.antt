@@ -11,14 +11,18 @@ use lib.ListN.{length, drop, replicate, length-append}
 use lib.Seq.{sets}
 use Rattle.wire.specs.Bytes.{pick, be, num_at, number_at, Bytes}
 use Rattle.wire.specs.View.{inside, viewed}
+use Rattle.wire.specs.declared.Refusal.{Refusal}
 use Rattle.wire.specs.declared.View.{View}
+use Rattle.std.specs.declared.result.Result.TheVariants.{Ok, Err}
 use Rattle.wire.proofs.Bytes.{number_is}
 use Rattle.wire.proofs.Views.{inside_is, bytes_viewed}
-use Rattle.writing.specs.Table.{joined, all_ok, sizes}
-use Rattle.writing.specs.Write.{put_at}
+use Rattle.writing.specs.Table.{joined, all_ok}
+use Rattle.writing.specs.Write.{WriteAnswer, put_at, Wrote}
 use Rattle.writing.proofs.Sets.{sets_append, put_then, put_fits, length_put}
 use Rattle.writing.proofs.Tlv.{view_long}
-use Rattle.writing.proofs.Table.{Kept, kept_of, length_joined}
+use Rattle.writing.proofs.Table.{Kept, kept_of}
+use Rattle.table_writer.specs.Writer.{table_answer, table_written}
+use Rattle.table_writer.proofs.Behind.{refused_behind, front_fits, put_before}
 use Rattle.tlv_table.proofs.Table.{bodied}
 use Rattle.addresses.specs.Address.{shown_ip}
 use Rattle.models.specs.declared.IpAddr.{IpAddr}
@@ -217,17 +221,23 @@ front_put m b out o1 o2 sixteen e1 e2 =
     e2 ∙ ap₂ (λ (o : List ℕ) (k : ℕ). sets o k opens) e1 (sym (zero-add (length ends) ∙ length_endpoints m.local_addr m.local_port m.remote_port sixteen))
     ∙ sym (sets_append ends opens out 0)
 
--- ---- the whole: how many bytes a writable record takes, and that they are put
-module _ (m : PeerUpNotification) (b : List ℕ) (p : Bytes b) (sixteen : length m.local_addr.octets ≡ 16) where
-  pub bytes_long : writable m b ≡ true → length (bytes_of m b) ≡ front_length m + sizes writer (kept m)
-  bytes_long e =
-      let w = writes_of m b e in
-      length_bytes m b w.front sixteen p ∙ ap (λ (n : ℕ). front_length m + n) (length_joined writer (bodied entries) b (kept m) w.table.fine)
+-- ---- the table is refused, or put and then what stands in front of it
+module _ (m : PeerUpNotification) (b : List ℕ) (p : Bytes b) (sixteen : length m.local_addr.octets ≡ 16) (few : m.count ≤ places) (fine : front_ok m b ≡ true)
+    (out o : List ℕ) (a : WriteAnswer)
+    (asked : a ≡ table_answer writer (front_length m) (kept m) b out) (left : o ≡ table_written writer (front_length m) (kept m) b out) where
+  long : length (front_bytes m b) ≡ front_length m
+  long = length_front m b (front_of m b fine) sixteen
 
-  pub put_whole : FineFront m b → (out o1 o2 o3 : List ℕ) → o1 ≡ sets out 0 (endpoint_bytes m.local_addr m.local_port m.remote_port)
-      → o2 ≡ sets o1 20 (open_bytes b m.sent_open m.received_open) → o3 ≡ sets o2 (front_length m) (joined writer b (kept m)) → o3 ≡ sets out 0 (bytes_of m b)
-  put_whole w out o1 o2 o3 e1 e2 e3 =
-      let t = joined writer b (kept m) in
-      let at : front_length m ≡ 0 + length (front_bytes m b) = sym (zero-add (length (front_bytes m b)) ∙ length_front m b w sixteen) in
-      e3 ∙ ap₂ (λ (o : List ℕ) (i : ℕ). sets o i t) (front_put m b out o1 o2 sixteen e1 e2) at ∙ sym (sets_append (front_bytes m b) t out 0)
-      ∙ ap (sets out 0) (sym (bytes_are m b p w))
+  whole : {o' : List ℕ} → Wrote (all_ok writer (length b) (kept m)) (front_bytes m b ++ joined writer b (kept m)) out a o' → Wrote (writable m b) (bytes_of m b) out a o'
+  whole w = rw (tlvs_decide m b few fine, bytes_are m b p (front_of m b fine)) w
+
+  pub refused_whole : (r : Refusal) → a ≡ Err r → Wrote (writable m b) (bytes_of m b) out a o
+  refused_whole r e = whole (refused_behind (bodied entries) (front_bytes m b) (front_length m) (kept m) b out o a long asked left e)
+
+  pub room : {n : ℕ} → a ≡ Ok n → front_length m ≤ length o
+  room e = front_fits (bodied entries) (front_bytes m b) (front_length m) (kept m) b out o a long asked left e
+
+  pub put_whole : {n : ℕ} → a ≡ Ok n → {o1 o2 : List ℕ} → o1 ≡ sets o 0 (endpoint_bytes m.local_addr m.local_port m.remote_port)
+      → o2 ≡ sets o1 20 (open_bytes b m.sent_open m.received_open) → Wrote (writable m b) (bytes_of m b) out a o2
+  put_whole e {o1} {o2} e1 e2 =
+      whole (put_before (bodied entries) (front_bytes m b) (front_length m) (kept m) b out o a long asked left e (front_put m b o o1 o2 sixteen e1 e2))

@@ -19,7 +19,7 @@ use wire::{Refusal, View};
 
 // Writes the message, whose views point into the buffer, to the front of the output. The table is judged and measured in one pass
 // and written in a second, where it stands.
-#[tactic(auto, using(crate::proofs::Written::too_many, crate::proofs::Written::front_bad, crate::proofs::Written::tlvs_decide, crate::proofs::Written::front_small))]
+#[tactic(auto, using(crate::proofs::Written::too_many, crate::proofs::Written::front_bad, crate::proofs::Written::front_small))]
 pub fn write_peer_up_notification(
     message: PeerUpNotification,
     buffer: &[u8],
@@ -36,11 +36,9 @@ pub fn write_peer_up_notification(
     }
     // A writable OPEN has at most 65,535 bytes, so the sum does not wrap.
     let front = OPENS_AT + (sent_open.length + received_open.length);
-    let tlvs = &message.tlvs[..count];
-    let length = table_writer::answer::<Tlvs>(front, tlvs, buffer.len(), out.len())?;
+    let length = table_writer::write::<Tlvs>(front, &message.tlvs[..count], buffer, out)?;
     put_endpoints(out, local_addr, message.local_port, message.remote_port);
     put_opens(out, sent_open, received_open, buffer);
-    table_writer::put_all::<Tlvs>(out, front, tlvs, buffer);
     Ok(length)
 }
 

@@ -13,7 +13,7 @@ use wire::Refusal;
 
 // Writes the report, whose views point into the buffer, to the front of the output. The table is judged and measured in one pass
 // and written in a second, where it stands.
-#[tactic(auto, using(writing::proofs::Answers::left_alone, writing::proofs::Answers::put_there, crate::proofs::Written::bytes_long, crate::proofs::Written::put_whole))]
+#[tactic(auto, using(crate::proofs::Written::refused_whole, crate::proofs::Written::put_whole))]
 pub fn write_stats_report(
     report: StatsReport,
     buffer: &[u8],
@@ -25,10 +25,8 @@ pub fn write_stats_report(
     if COUNTER_PLACES < count || (report.stats_count as usize) != count {
         return writing::write_answer(false, 0, out.len());
     }
-    let counters = &report.counters[..count];
-    let length = table_writer::answer::<Counters>(4, counters, buffer.len(), out.len())?;
+    let length = table_writer::write::<Counters>(4, &report.counters[..count], buffer, out)?;
     report.stats_count.put(out, 0);
-    table_writer::put_all::<Counters>(out, 4, counters, buffer);
     Ok(length)
 }
 

@@ -1,23 +1,37 @@
 -- The two loops over a table, for every kind of table: the first judges and measures it, the second puts it. Assumes nothing.
-use mathlib.Core.Path.{◌≡◌, sym, ap, ap₂, ◌∙◌, subst}
-use mathlib.Core.Bool.{true}
+use mathlib.Core.Path.{◌≡◌, refl, sym, ap, ap₂, ◌∙◌, subst}
+use mathlib.Core.Bool.{Bool, true, false}
 use mathlib.Core.List.{List, ◌∷◌}
-use Prim.Native.Nat.{ℕ, suc, ◌+◌, ◌*◌, ◌≤◌, ◌<◌}
+use Prim.Native.Nat.{ℕ, suc, ◌+◌, ◌≤◌, ◌<◌, min}
 use native.Mathlib.Omega.{arith}
 use native.Mathlib.Numerals.{add-one}
+use borrow.Author.Tests.{ltb-true, ltb-false}
+use lib.Dec.{ltb}
 use lib.ListN.{length, drop, get_or}
 use lib.Seq.{sets, length-sets, drop-cons}
-use Rattle.writing.specs.Write.{put_at}
+use Rattle.wire.specs.Number as Number
+use Rattle.writing.specs.Write.{put_at, write_answer}
 use Rattle.writing.specs.Table.{Writer, joined, all_ok, sizes, Bodied}
 use Rattle.writing.proofs.Sets.{sets_append, put_fits}
 use Rattle.writing.proofs.Table.{ok_head}
 
--- i of the entries were judged and found good; with what stands in front of the table they take m bytes
+-- a sum as far as it tells the answer: past the limit, by how much is all the same
+abbrev told : ℕ → ℕ
+told n = min n (Number.limit + 1)
+
+pub same_answer : (m n room : ℕ) → told m ≡ told n → write_answer true m room ≡ write_answer true n room
+same_answer m n room e = go (ltb Number.limit m) refl (ltb Number.limit n) refl
+  where
+    go : (a : Bool) → ltb Number.limit m ≡ a → (c : Bool) → ltb Number.limit n ≡ c → write_answer true m room ≡ write_answer true n room
+    go true p true q = rw (p, q)
+    go true p false q = absurd (omega (arith, ltb-true Number.limit m p, ltb-false Number.limit n q))
+    go false p c q = let k : m ≡ n = omega (arith, ltb-false Number.limit m p) in rw k
+
+-- i of the entries were judged and found good; with what stands in front of the table they take m bytes, past the limit m or more
 pub record Measured (W : Writer) (entries : List W.Entry) (buffer_length front m i : ℕ) : Type 0 where
   pub below : i ≤ length entries
-  pub small : m ≤ front + i * 65539
   pub good : all_ok W buffer_length entries ≡ all_ok W buffer_length (drop i entries)
-  pub added : m + sizes W (drop i entries) ≡ front + sizes W entries
+  pub added : told (m + sizes W (drop i entries)) ≡ told (front + sizes W entries)
 
 -- k of the entries were put, from a place of the output on: the bytes of the others, put where the writer stands, give the whole output
 pub record Placed (W : Writer) (entries : List W.Entry) (b out₀ : List ℕ) (at₀ : ℕ) (out : List ℕ) (at k : ℕ) : Type 0 where

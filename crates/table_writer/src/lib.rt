@@ -1,11 +1,11 @@
 // Writing the table of a body, entry after entry: what every writer of a list shares.
 #![tactic(auto)]
 
-ghost use Rattle.std.specs.Prelude.{◌≡◌, ℕ, ◌+◌, ◌*◌, ◌^◌, ◌<◌, ◌≤◌, Bool, true, List, length};
+ghost use Rattle.std.specs.Prelude.{◌≡◌, ℕ, ◌+◌, ◌≤◌, Bool, true, List, length};
 ghost use Rattle.std.proofs.lemmas.List.Edits.{sets};
 ghost use Rattle.writing.specs.Write.{put_at, write_answer};
 ghost use Rattle.writing.specs.Table.{joined, all_ok, sizes, Bodied};
-ghost use Rattle.table_writer.specs.Writer.{writer_of};
+ghost use Rattle.table_writer.specs.Writer.{writer_of, table_answer, table_written};
 
 use wire::Refusal;
 
@@ -42,15 +42,30 @@ pub trait Table {
     ghost bodied: { Bodied (writer_of Self.Entry Item part put_item ok size) one };
 }
 
-// A writer's answer to so many bytes and then these entries, by the room that there is: how many bytes that is in all, or why nothing is
-// written.
-pub fn answer<T: Table>(
+// Writes entries, whose views point into the buffer, behind so many bytes of the output, which stay as they are for the caller to put, and
+// which the answer counts too. The table is judged and measured in one pass and put in a second.
+pub fn write<T: Table>(
+    front: usize,
+    entries: &[T::Entry],
+    buffer: &[u8],
+    out: &mut [u8],
+) -> Result<usize, Refusal>
+    ensures answered { result ≡ table_answer (writer_of T.Entry T.Item T.part T.put_item T.ok T.size) front entries.now buffer.now out.old }
+    ensures left { out.new ≡ table_written (writer_of T.Entry T.Item T.part T.put_item T.ok T.size) front entries.now buffer.now out.old }
+{
+    let length = answer::<T>(front, entries, buffer.len(), out.len())?;
+    put_all::<T>(out, front, entries, buffer);
+    Ok(length)
+}
+
+// How many bytes front and entries take, or why nothing is written. Past the limit no more is added: the answer is the same, and no sum wraps.
+#[tactic(auto, using(crate::proofs::Passes::same_answer))]
+fn answer<T: Table>(
     front: usize,
     entries: &[T::Entry],
     buffer_length: usize,
     room: usize,
 ) -> Result<usize, Refusal>
-    requires { front + length entries.now * 65539 < 2 ^ 64 }
     ensures { let W = writer_of T.Entry T.Item T.part T.put_item T.ok T.size in result ≡ write_answer (all_ok W buffer_length entries.now) (front + sizes W entries.now) room }
 {
     let mut length = front;
@@ -58,13 +73,15 @@ pub fn answer<T: Table>(
         if !T::is_writable(*entry, buffer_length, entries.len() - i - 1) {
             return writing::write_answer(false, 0, room);
         }
-        length += T::length(*entry);
+        if length <= wire::LIMIT {
+            length += T::length(*entry);
+        }
     }
     writing::write_answer(true, length, room)
 }
 
 // Puts writable entries one behind the other, from a place of the output on.
-pub fn put_all<T: Table>(out: &mut [u8], from: usize, entries: &[T::Entry], buffer: &[u8])
+fn put_all<T: Table>(out: &mut [u8], from: usize, entries: &[T::Entry], buffer: &[u8])
     requires writable { all_ok (writer_of T.Entry T.Item T.part T.put_item T.ok T.size) (length buffer.now) entries.now ≡ true }
     requires room { from + sizes (writer_of T.Entry T.Item T.part T.put_item T.ok T.size) entries.now ≤ length out.old }
     ensures { out.new ≡ sets out.old from (joined (writer_of T.Entry T.Item T.part T.put_item T.ok T.size) buffer.now entries.now) }

@@ -15,7 +15,7 @@ use wire::{Refusal, View};
 
 // Writes the message, whose views point into the buffer, to the front of the output. The table is judged and measured in one pass
 // and written in a second, where it stands.
-#[tactic(auto, using(writing::proofs::Answers::left_alone, writing::proofs::Answers::put_there, crate::proofs::Written::bytes_long))]
+#[tactic(auto, using(crate::proofs::Written::whole_written))]
 pub fn write_termination_message(
     message: TerminationMessage,
     buffer: &[u8],
@@ -27,10 +27,7 @@ pub fn write_termination_message(
     if wire::TLV_PLACES < count {
         return writing::write_answer(false, 0, out.len());
     }
-    let tlvs = &message.tlvs[..count];
-    let length = table_writer::answer::<Tlvs>(0, tlvs, buffer.len(), out.len())?;
-    table_writer::put_all::<Tlvs>(out, 0, tlvs, buffer);
-    Ok(length)
+    table_writer::write::<Tlvs>(0, &message.tlvs[..count], buffer, out)
 }
 
 struct Tlvs;

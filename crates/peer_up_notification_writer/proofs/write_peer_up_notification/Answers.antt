@@ -1,45 +1,42 @@
-use Rattle.std.proofs.Common.{◌≡◌, ◌+◌, length, rules, arith, ap, sym, ◌∙◌, Ok, refl}
+use Rattle.std.proofs.Common.{◌≡◌, ◌≤◌, true, length, rules, arith, Err, refl, ap, sym, ◌∙◌}
 use Rattle.std.proofs.lemmas.Grind.{common_steps}
-use Rattle.std.proofs.lemmas.List.Edits.{sets}
 use lib.Seq.{length-sets}
 use Rattle.wire.specs.Bytes.{Bytes}
-use Rattle.wire.proofs.Held.{slice_bytes}
-use Rattle.writing.specs.Table.{joined, sizes}
-use Rattle.writing.specs.Write.{write_answer}
-use Rattle.writing.proofs.Answers.{writes, left_alone, put_there}
-use Rattle.peer_up_notification.specs.Shown.{kept}
-use Rattle.peer_up_notification_writer.specs.Write.{writer, writable, bytes_of, endpoint_bytes, front_length}
-use Rattle.peer_up_notification_writer.proofs.Written.{FineFront, front_of, length_opens, tlvs_decide, bytes_long, put_whole}
+use Rattle.wire.proofs.Held.{slice_bytes, array_bytes}
+use Rattle.peer_up_notification_writer.specs.Write.{endpoint_bytes, front_length, Typed}
+use Rattle.peer_up_notification_writer.proofs.Written.{FineFront, front_of, front_ok, length_opens, refused_whole, room, put_whole}
 use Rattle.peer_up_notification_writer.proofs.write_peer_up_notification.Goals as goal
 
 pub returns-in_err-length : goal.returns-in_err-length
 returns-in_err-length c =
-    let m = c.args.message in
     let b = c.args.buffer.now in
-    let sixteen : length m.local_addr.octets ≡ 16 = search rules in
     let p : Bytes b = slice_bytes b (λ i. omega (arith, c.type_inv.buffer i)) in
-    let long = bytes_long m b p sixteen in
-    let asked : c.from_residual.result ≡ write_answer (writable m b) (front_length m + sizes writer (kept m)) (length c.args.out.now) = grind (arith, common_steps, tlvs_decide) in
-    left_alone _ (bytes_of m b) c.args.out.now _ long _ asked c.in_err-length.field-0.0 (grind (arith, common_steps))
+    let fine : front_ok c.args.message b ≡ true = sym c.front_writable.ensures ∙ c.if-not-front_writable.false in
+    let handed_on : c.from_residual.result ≡ Err c.in_err-length.field-0.0 = grind (arith, common_steps) in
+    refused_whole c.args.message b p (search rules) (omega arith) fine _ _ _ (handed_on ∙ sym c.in_err-length.was ∙ c.write.ensures.answered) c.write.ensures.left _ handed_on
 
 pub put_opens-requires : goal.put_opens-requires
 put_opens-requires c =
     let m = c.args.message in
     let b = c.args.buffer.now in
-    let f : FineFront m b = front_of m b (sym c.front_writable.ensures ∙ c.if-not-front_writable.false) in
-    let asked : Ok c.in_ok-length.length ≡ write_answer (writable m b) (front_length m + sizes writer (kept m)) (length c.args.out.now) = grind (arith, common_steps, tlvs_decide) in
-    let w = writes (writable m b) (front_length m + sizes writer (kept m)) (length c.args.out.now) c.in_ok-length.length asked in
-    let kept_long : length c.put_endpoints.new.out ≡ length c.args.out.now = ap length c.put_endpoints.ensures ∙ length-sets c.args.out.now 0 (endpoint_bytes m.local_addr m.local_port m.remote_port) in
-    omega (arith, w.fits, length_opens b m.sent_open m.received_open f.sent f.received)
+    let p : Bytes b = slice_bytes b (λ i. omega (arith, c.type_inv.buffer i)) in
+    let fine : front_ok m b ≡ true = sym c.front_writable.ensures ∙ c.if-not-front_writable.false in
+    let f : FineFront m b = front_of m b fine in
+    let fits : front_length m ≤ length c.write.new.out = room m b p (search rules) (omega arith) fine _ _ _ c.write.ensures.answered c.write.ensures.left c.in_ok-length.was in
+    let same : length c.put_endpoints.new.out ≡ length c.write.new.out = ap length c.put_endpoints.ensures ∙ length-sets c.write.new.out 0 (endpoint_bytes m.local_addr m.local_port m.remote_port) in
+    omega (arith, length_opens b m.sent_open m.received_open f.sent f.received)
 
 pub returns : goal.returns
 returns c =
-    let m = c.args.message in
     let b = c.args.buffer.now in
-    let out = c.args.out.now in
-    let sixteen : length m.local_addr.octets ≡ 16 = search rules in
     let p : Bytes b = slice_bytes b (λ i. omega (arith, c.type_inv.buffer i)) in
-    let f : FineFront m b = front_of m b (sym c.front_writable.ensures ∙ c.if-not-front_writable.false) in
-    let asked : Ok c.in_ok-length.length ≡ write_answer (writable m b) (front_length m + sizes writer (kept m)) (length out) = grind (arith, common_steps, tlvs_decide) in
-    let table : c.put_all.new.out ≡ sets c.put_opens.new.out (front_length m) (joined writer b (kept m)) = grind (arith, common_steps) in
-    put_there _ (bytes_of m b) out _ (bytes_long m b p sixteen) _ asked _ refl _ (put_whole m b p sixteen f out _ _ _ c.put_endpoints.ensures c.put_opens.ensures table)
+    let fine : front_ok c.args.message b ≡ true = sym c.front_writable.ensures ∙ c.if-not-front_writable.false in
+    let typed : Typed c.args.message =
+    let octets = c.well_formed.0.1.1.0.1.1.0 in
+    record {
+      octets = record { many = search rules; are_bytes = array_bytes c.args.message.local_addr.octets octets.0 octets.1.1 };
+      local_port_fits = omega (arith, c.well_formed);
+      remote_port_fits = omega (arith, c.well_formed);
+      table_long = search rules;
+    } in
+    put_whole c.args.message b p typed.octets.many (omega arith) fine _ _ _ (sym c.in_ok-length.was ∙ c.write.ensures.answered) c.write.ensures.left refl c.put_endpoints.ensures c.put_opens.ensures
