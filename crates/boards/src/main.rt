@@ -119,13 +119,13 @@ fn answer(
     out: &mut [u8],
 ) -> io::Result<()> {
     let Ok(asked) = asked else {
-        return print(rt, out, trial_forms::bare(Form::BadLine));
+        return print(rt, out, trial_forms::bare(Form::BadLine as usize));
     };
     match asked {
         None => Ok(()),
         Some(Asked::Clear) => {
             *board = board::empty();
-            print(rt, out, trial_forms::bare(Form::Done))
+            print(rt, out, trial_forms::bare(Form::Done as usize))
         }
         Some(Asked::List) => print_peers(rt, out, &board.places),
         Some(Asked::Up(count)) => print_done(rt, out, up(board, trial_input::front(bytes, count))),
@@ -148,7 +148,7 @@ fn print(rt: &impl Print, out: &mut [u8], shown: Shown) -> io::Result<()> {
 
 fn print_done(rt: &impl Print, out: &mut [u8], done: Result<(), Refusal>) -> io::Result<()> {
     match done {
-        Ok(()) => print(rt, out, trial_forms::bare(Form::Done)),
+        Ok(()) => print(rt, out, trial_forms::bare(Form::Done as usize)),
         Err(refusal) => print(rt, out, trial_forms::refused(refusal)),
     }
 }
@@ -196,7 +196,7 @@ fn refusal_of(refused: BoardRefusal) -> Refusal {
 fn print_lookup(rt: &impl Print, out: &mut [u8], board: Board, s: &[u8]) -> io::Result<()> {
     match looked_up(board, s) {
         Err(refusal) => print(rt, out, trial_forms::refused(refusal)),
-        Ok(None) => print(rt, out, trial_forms::bare(Form::NoneYet)),
+        Ok(None) => print(rt, out, trial_forms::bare(Form::NoneYet as usize)),
         Ok(Some(report)) => print_report(rt, out, report),
     }
 }
@@ -216,11 +216,11 @@ fn print_report(rt: &impl Print, out: &mut [u8], report: KeptReport) -> io::Resu
 }
 
 fn counted(form: Form, count: u64) -> Shown {
-    trial_forms::of_five(form, 0, count, 0, 0, 0, 0)
+    trial_forms::of_five(form as usize, 0, count, 0, 0, 0, 0)
 }
 
 fn print_end(rt: &impl Print, out: &mut [u8], at: usize) -> io::Result<()> {
-    let end = trial_forms::put(out, at, trial_forms::bare(Form::TableEnd), b"");
+    let end = trial_forms::put(out, at, trial_forms::bare(Form::TableEnd as usize), b"");
     trial_input::write(rt, trial_input::front(out, end))
 }
 
@@ -229,23 +229,13 @@ fn counter_shown(i: u64, counter: KeptCounter) -> Shown {
     let kind = counter.kind as u64;
     let size = counter.stat_len as u64;
     let name = trial_entries::stat_name(counter.stat_type());
-    match counter.stat_data() {
-        KeptData::Counter(n) => {
-            trial_entries::of_seven(Form::Counter, i, kind, size, name, n as u64, 0, 0)
-        }
-        KeptData::Gauge(n) => trial_entries::of_seven(Form::Gauge, i, kind, size, name, n, 0, 0),
-        KeptData::AfiSafiGauge(afi, safi, n) => trial_entries::of_seven(
-            Form::AfiSafiGauge,
-            i,
-            kind,
-            size,
-            name,
-            afi as u64,
-            safi as u64,
-            n,
-        ),
-        KeptData::Raw => trial_entries::of_seven(Form::Raw, i, kind, size, name, 0, 0, 0),
-    }
+    let (form, a, b, c) = match counter.stat_data() {
+        KeptData::Counter(n) => (Form::Counter, n as u64, 0, 0),
+        KeptData::Gauge(n) => (Form::Gauge, n, 0, 0),
+        KeptData::AfiSafiGauge(afi, safi, n) => (Form::AfiSafiGauge, afi as u64, safi as u64, n),
+        KeptData::Raw => (Form::Raw, 0, 0, 0),
+    };
+    trial_entries::of_seven(form as usize, i, kind, size, name, a, b, c)
 }
 
 // ---- the peers on the board
@@ -269,7 +259,7 @@ fn print_peers(
 fn peer_shown(i: u64, key: PeerKey) -> Shown {
     let octets = key.octets;
     trial_entries::of_seven(
-        Form::Peer,
+        Form::Peer as usize,
         i,
         key.peer_type.number() as u64,
         family(key.afi),

@@ -82,7 +82,7 @@ fn put_asked(
         Ok(Some((command, count))) => {
             put_answer(out, command, trial_input::front(bytes, count), room)
         }
-        Err(BadLine) => trial_forms::put(out, 0, trial_forms::bare(Form::BadLine), b""),
+        Err(BadLine) => trial_forms::put(out, 0, trial_forms::bare(Form::BadLine as usize), b""),
     }
 }
 
@@ -98,14 +98,19 @@ fn put_answer(out: &mut [u8], command: Command, body: &[u8], room: &mut [u8]) ->
 fn put_read(out: &mut [u8], kind: Kind, arguments: Arguments, body: &[u8]) -> usize {
     let found = trial_readers::read(kind, arguments, body);
     let mut next = trial_forms::put(out, 0, found, body);
-    if !found.form.begins_table() {
+    if !begins_table(found.form) {
         return next;
     }
     for i in 0..found.count {
         let entry = trial_entries::entry(kind, arguments, body, i);
         next = trial_forms::put(out, next, entry, body);
     }
-    trial_forms::put(out, next, trial_forms::bare(Form::TableEnd), body)
+    trial_forms::put(out, next, trial_forms::bare(Form::TableEnd as usize), body)
+}
+
+// Does a record's table follow this form, entry by entry, and then its end?
+fn begins_table(form: usize) -> bool {
+    form == Form::PeerUp as usize || form == Form::Stats as usize || form == Form::Tlvs as usize
 }
 
 // A record that the reader refuses is not written.
@@ -117,11 +122,15 @@ fn put_rewritten(
     room: &mut [u8],
 ) -> usize {
     let found = trial_readers::read(kind, arguments, body);
-    if found.form.is_refusal() {
+    if is_refusal(found.form) {
         return trial_forms::put(out, 0, found, body);
     }
     let tail = found.numbers[1] as usize;
     put_written(out, kind, arguments, body, output(room, tail))
+}
+
+fn is_refusal(form: usize) -> bool {
+    form == Form::Refused as usize || form == Form::Cut as usize
 }
 
 // Two bytes more than the tail's start. A tail starts within the line's bytes, so there is always room; were there none, the writer would
@@ -143,8 +152,9 @@ fn put_written(
 ) -> usize {
     trial_hex::put_untouched(lent);
     let change = trial_writers::UNCHANGED;
+    let length = lent.len() as u64;
     let shown = match trial_writers::write(kind, arguments, change, body, body, lent) {
-        Ok(n) => trial_forms::of_five(Form::Written, 0, n as u64, 0, lent.len() as u64, 0, 0),
+        Ok(n) => trial_forms::of_five(Form::Written as usize, 0, n as u64, 0, length, 0, 0),
         Err(refusal) => trial_forms::refused(refusal),
     };
     trial_forms::put(out, 0, shown, lent)

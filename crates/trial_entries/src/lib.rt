@@ -22,7 +22,7 @@ pub fn entry(kind: Kind, arguments: Arguments, s: &[u8], i: usize) -> Shown {
         Kind::PeerUp => peer_up_entry(arguments, s, i),
         _ => None,
     };
-    shown.unwrap_or(trial_forms::bare(Form::Nothing))
+    shown.unwrap_or(trial_forms::bare(Form::Nothing as usize))
 }
 
 fn stats_entry(s: &[u8], i: usize) -> Option<Shown> {
@@ -35,26 +35,13 @@ fn counter_entry(i: u64, counter: StatCounter) -> Shown {
     let kind = counter.kind as u64;
     let size = counter.stat_len as u64;
     let name = stat_name(counter.stat_type());
-    match counter.stat_data() {
-        StatsData::Counter(n) => of_seven(Form::Counter, i, kind, size, name, n as u64, 0, 0),
-        StatsData::Gauge(n) => of_seven(Form::Gauge, i, kind, size, name, n, 0, 0),
-        StatsData::AfiSafiGauge(afi, safi, n) => {
-            of_seven(
-                Form::AfiSafiGauge,
-                i,
-                kind,
-                size,
-                name,
-                afi as u64,
-                safi as u64,
-                n,
-            )
-        }
-        StatsData::Unknown(view) => {
-            let place = view.place as u64;
-            of_seven(Form::Raw, i, kind, size, name, place, view.length as u64, 0)
-        }
-    }
+    let (form, a, b, c) = match counter.stat_data() {
+        StatsData::Counter(n) => (Form::Counter, n as u64, 0, 0),
+        StatsData::Gauge(n) => (Form::Gauge, n, 0, 0),
+        StatsData::AfiSafiGauge(afi, safi, n) => (Form::AfiSafiGauge, afi as u64, safi as u64, n),
+        StatsData::Unknown(view) => (Form::Raw, view.place as u64, view.length as u64, 0),
+    };
+    of_seven(form as usize, i, kind, size, name, a, b, c)
 }
 
 // The mark of a type: N where it has a name, O where it has none.
@@ -66,7 +53,7 @@ pub fn stat_name(stat_type: StatType) -> u64 {
 }
 
 // A form with seven numbers.
-pub fn of_seven(form: Form, a: u64, b: u64, c: u64, d: u64, e: u64, f: u64, g: u64) -> Shown {
+pub fn of_seven(form: usize, a: u64, b: u64, c: u64, d: u64, e: u64, f: u64, g: u64) -> Shown {
     Shown {
         form,
         count: 0,
@@ -90,7 +77,7 @@ fn initiation_tlv(i: u64, tlv: InitiationTlv) -> Shown {
 
 fn tlv_entry(form: Form, i: u64, kind: u64, size: u64, view: View) -> Shown {
     let place = view.place as u64;
-    trial_forms::of_five(form, 0, i, kind, size, place, view.length as u64)
+    trial_forms::of_five(form as usize, 0, i, kind, size, place, view.length as u64)
 }
 
 fn termination_entry(s: &[u8], i: usize) -> Option<Shown> {
@@ -108,11 +95,12 @@ fn termination_tlv(i: u64, tlv: TerminationTlv) -> Shown {
 }
 
 fn text_entry(form: Form, i: u64, size: u64, view: View) -> Shown {
-    trial_forms::of_five(form, 0, i, size, view.place as u64, view.length as u64, 0)
+    let place = view.place as u64;
+    trial_forms::of_five(form as usize, 0, i, size, place, view.length as u64, 0)
 }
 
 fn code_entry(form: Form, i: u64, size: u64, code: u16) -> Shown {
-    trial_forms::of_five(form, 0, i, size, code as u64, 0, 0)
+    trial_forms::of_five(form as usize, 0, i, size, code as u64, 0, 0)
 }
 
 fn mirroring_entry(s: &[u8], i: usize) -> Option<Shown> {
@@ -159,7 +147,7 @@ fn peer_up_tlv(i: u64, tlv: PeerUpNotificationTlv) -> Shown {
 // The answer to two headers, one behind the other: are they equal, and are they without their times?
 pub fn equal(body: &[u8]) -> Shown {
     if body.len() != 84 {
-        return trial_forms::bare(Form::BadLine);
+        return trial_forms::bare(Form::BadLine as usize);
     }
     let (first, second) = body.split_at(42);
     same(first, second).unwrap_or_else(trial_forms::refused)
@@ -172,7 +160,8 @@ fn same(first: &[u8], second: &[u8]) -> Result<Shown, Refusal> {
         .header;
     let stripped = one.strip_timestamp();
     let without_time = stripped.equals(other.strip_timestamp());
-    Ok(trial_forms::bare(same_form(one.equals(other), without_time)))
+    let form = same_form(one.equals(other), without_time);
+    Ok(trial_forms::bare(form as usize))
 }
 
 // What is refused behind a header: the place counts from the header's start, and what is missing stays.

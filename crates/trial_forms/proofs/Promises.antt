@@ -4,7 +4,6 @@ use Rattle.wire.proofs.Determined.{determined}
 use Rattle.trial_forms.specs.Kinds.{kind_at}
 use Rattle.trial_forms.specs.Shown.{of_five, bare, refused_as, judged_as}
 use Rattle.trial_forms.specs.declared.Kind.{Kind}
-use Rattle.trial_forms.specs.declared.Form.{Form}
 use Rattle.trial_forms.specs.declared.Shown.{Shown}
 use Rattle.wire.specs.declared.Refusal.{Refusal}
 
@@ -13,10 +12,10 @@ pub kind_at_determined : (n : ℕ) (r q : Kind) → r ≡ kind_at n → q ≡ ki
 kind_at_determined n r q = determined
 
 -- Two answers made of the same numbers, or in place of the same refusal, are equal.
-pub of_five_determined : (form : Form) (count a b c d e : ℕ) (r q : Shown) → r ≡ of_five form count a b c d e → q ≡ of_five form count a b c d e → r ≡ q
+pub of_five_determined : (form count a b c d e : ℕ) (r q : Shown) → r ≡ of_five form count a b c d e → q ≡ of_five form count a b c d e → r ≡ q
 of_five_determined form count a b c d e r q = determined
 
-pub bare_determined : (form : Form) (r q : Shown) → r ≡ bare form → q ≡ bare form → r ≡ q
+pub bare_determined : (form : ℕ) (r q : Shown) → r ≡ bare form → q ≡ bare form → r ≡ q
 bare_determined form r q = determined
 
 pub refused_determined : (x : Refusal) (r q : Shown) → r ≡ refused_as x → q ≡ refused_as x → r ≡ q

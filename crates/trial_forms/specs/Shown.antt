@@ -3,11 +3,9 @@ use Rattle.std.specs.Prelude.{ℕ, [], ◌∷◌, ◌==◌}
 use Rattle.wire.specs.Number as Number
 use Rattle.wire.specs.Bytes.{pick}
 use Rattle.wire.specs.declared.Refusal.{Refusal}
-use Rattle.trial_forms.specs.declared.Form.{Form}
-use Rattle.trial_forms.specs.declared.Form.TheVariants.{Refused, Cut}
 use Rattle.trial_forms.specs.declared.Shown.{Shown}
 
-abbrev pub of_five : Form → ℕ → ℕ → ℕ → ℕ → ℕ → ℕ → Shown
+abbrev pub of_five : ℕ → ℕ → ℕ → ℕ → ℕ → ℕ → ℕ → Shown
 of_five form count a b c d e =
     record {
       form = form;
@@ -16,12 +14,12 @@ of_five form count a b c d e =
     }
 
 -- a form without numbers
-abbrev pub bare : Form → Shown
+abbrev pub bare : ℕ → Shown
 bare form = of_five form 0 0 0 0 0 0
 
--- a Cut has a form of its own
-abbrev pub refused_form : ℕ → Form
-refused_form number = pick (number == Number.Cut) Cut Refused
+-- a Cut is form 1, any other refusal form 0
+abbrev pub refused_form : ℕ → ℕ
+refused_form number = pick (number == Number.Cut) 1 0
 
 -- a refusal with its number, its place, and what is missing
 abbrev pub refused_as : Refusal → Shown

@@ -55,7 +55,7 @@ pub struct Arguments {
     pub peer_type: BmpPeerType,
 }
 
-// What an answer or an entry is printed by: a text with marks.
+// What an answer or an entry is printed by, in the order of the forms' numbers.
 #[derive(Clone, Copy)]
 pub enum Form {
     Refused,
@@ -97,81 +97,57 @@ pub enum Form {
     Peer,
 }
 
-impl Form {
-    // Is it that of a refusal?
-    pub fn is_refusal(self) -> bool {
-        matches!(self, Form::Refused | Form::Cut)
-    }
+// The text of each form, in the same order. Entries begin with a comma, but for the first of a table.
+static TEXTS: [&[u8]; 37] = [
+    b"refused # at #\n",
+    b"refused # at # missing #\n",
+    b"bad line\n",
+    b"written # $\n",
+    b"yes yes\n",
+    b"yes no\n",
+    b"no yes\n",
+    b"no no\n",
+    b"good stop=# tail=# warn=0 version=# length=# type=#\n",
+    b"good stop=# tail=# warn=0 length=# type=#\n",
+    b"skipped stop=# tail=# warn=0 length=# type=#\n",
+    b"good stop=# tail=# warn=# type=# flags=% dist=@ fam=# addr=@@ as=# asbits=# id=& sec=# usec=# ts=@ time=none\n",
+    b"good stop=# tail=# warn=# type=# flags=% dist=@ fam=# addr=@@ as=# asbits=# id=& sec=# usec=# ts=@ time=some\n",
+    b"good stop=# tail=# warn=0 hlen=# mlen=# sec=# usec=# ts=@ admin=$ fam=# router=@@ group=$\n",
+    b"good stop=# tail=# warn=0 reason=# data=none\n",
+    b"good stop=# tail=# warn=0 reason=# data=some:$\n",
+    b"good stop=# tail=# warn=# bgp=$\n",
+    b"good stop=# tail=# warn=# fam=# local=@@ lport=# rport=# sent=$ received=$ tlvs=[",
+    b"good stop=# tail=# warn=0 count=# counters=[",
+    b"good stop=# tail=# warn=0 tlvs=[",
+    b",#:#:!:C#",
+    b",#:#:!:G#",
+    b",#:#:!:A#/#/#",
+    b",#:#:!:R$",
+    b",#:#:N:$",
+    b",#:#:U:$",
+    b",0:#:$",
+    b",1:#:reason#",
+    b",0:#:bgp$",
+    b",1:#:info#",
+    b"]\n",
+    b"",
+    b"ok\n",
+    b"none yet\n",
+    b"report count=# counters=[",
+    b"count=# peers=[",
+    b",#/#/@/@@/&",
+];
 
-    // Does a record's table follow it, entry by entry, and then its end?
-    pub fn begins_table(self) -> bool {
-        matches!(self, Form::PeerUp | Form::Stats | Form::Tlvs)
-    }
-
-    fn text(self) -> &'static [u8] {
-        match self {
-            Form::Refused => b"refused # at #\n",
-            Form::Cut => b"refused # at # missing #\n",
-            Form::BadLine => b"bad line\n",
-            Form::Written => b"written # $\n",
-            Form::YesYes => b"yes yes\n",
-            Form::YesNo => b"yes no\n",
-            Form::NoYes => b"no yes\n",
-            Form::NoNo => b"no no\n",
-            Form::Common => b"good stop=# tail=# warn=0 version=# length=# type=#\n",
-            Form::Split => b"good stop=# tail=# warn=0 length=# type=#\n",
-            Form::Skipped => b"skipped stop=# tail=# warn=0 length=# type=#\n",
-            Form::TimelessPeer =>
-                b"good stop=# tail=# warn=# type=# flags=% dist=@ fam=# addr=@@ as=# asbits=# id=& sec=# usec=# ts=@ time=none\n",
-            Form::TimedPeer =>
-                b"good stop=# tail=# warn=# type=# flags=% dist=@ fam=# addr=@@ as=# asbits=# id=& sec=# usec=# ts=@ time=some\n",
-            Form::OpenBmp =>
-                b"good stop=# tail=# warn=0 hlen=# mlen=# sec=# usec=# ts=@ admin=$ fam=# router=@@ group=$\n",
-            Form::PeerDown => b"good stop=# tail=# warn=0 reason=# data=none\n",
-            Form::PeerDownData => b"good stop=# tail=# warn=0 reason=# data=some:$\n",
-            Form::Monitoring => b"good stop=# tail=# warn=# bgp=$\n",
-            Form::PeerUp =>
-                b"good stop=# tail=# warn=# fam=# local=@@ lport=# rport=# sent=$ received=$ tlvs=[",
-            Form::Stats => b"good stop=# tail=# warn=0 count=# counters=[",
-            Form::Tlvs => b"good stop=# tail=# warn=0 tlvs=[",
-            Form::Done => b"ok\n",
-            Form::NoneYet => b"none yet\n",
-            Form::Report => b"report count=# counters=[",
-            Form::Peers => b"count=# peers=[",
-            _ => self.entry_text(),
-        }
-    }
-
-    // An entry begins with a comma, but for the first of a table.
-    fn entry_text(self) -> &'static [u8] {
-        match self {
-            Form::Counter => b",#:#:!:C#",
-            Form::Gauge => b",#:#:!:G#",
-            Form::AfiSafiGauge => b",#:#:!:A#/#/#",
-            Form::Raw => b",#:#:!:R$",
-            Form::NamedTlv => b",#:#:N:$",
-            Form::UnknownTlv => b",#:#:U:$",
-            Form::String => b",0:#:$",
-            Form::Reason => b",1:#:reason#",
-            Form::BgpMessage => b",0:#:bgp$",
-            Form::Information => b",1:#:info#",
-            Form::TableEnd => b"]\n",
-            Form::Peer => b",#/#/@/@@/&",
-            _ => b"",
-        }
-    }
-}
-
-// A form, the numbers that go into it, and how many entries of a table follow it.
+// The number of a form, the numbers that go into it, and how many entries of a table follow it.
 #[derive(Clone, Copy)]
 pub struct Shown {
-    pub form: Form,
+    pub form: usize,
     pub count: usize,
     pub numbers: [u64; 16],
 }
 
 // A form with five numbers; where it has fewer marks, the last ones have no say.
-pub fn of_five(form: Form, count: usize, a: u64, b: u64, c: u64, d: u64, e: u64) -> Shown
+pub fn of_five(form: usize, count: usize, a: u64, b: u64, c: u64, d: u64, e: u64) -> Shown
     ensures { result ≡ of_five form count a b c d e }
 {
     Shown {
@@ -181,11 +157,11 @@ pub fn of_five(form: Form, count: usize, a: u64, b: u64, c: u64, d: u64, e: u64)
     }
 }
 
-// Puts an answer or an entry by its form.
+// Puts an answer or an entry by its form; where no form has the number, it puts nothing.
 pub fn put(out: &mut [u8], at: usize, shown: Shown, body: &[u8]) -> usize {
-    let form = shown.form;
+    let text = TEXTS.get(shown.form).copied().unwrap_or(b"");
     let numbers = shown.numbers;
-    put_shown(out, at, form.text(), &numbers, body)
+    put_shown(out, at, text, &numbers, body)
 }
 
 // A good answer, or the refusal in its place.
@@ -199,7 +175,7 @@ pub fn judged(refusal: Refusal, shown: Shown) -> Shown
 }
 
 // A form without numbers.
-pub fn bare(form: Form) -> Shown
+pub fn bare(form: usize) -> Shown
     ensures { result ≡ bare form }
 {
     of_five(form, 0, 0, 0, 0, 0, 0)
@@ -220,13 +196,13 @@ pub fn refused(refusal: Refusal) -> Shown
 }
 
 // A Cut alone says what is missing.
-fn refused_form(number: u8) -> Form
+fn refused_form(number: u8) -> usize
     ensures { result ≡ refused_form number }
 {
     if number == wire::CUT {
-        Form::Cut
+        Form::Cut as usize
     } else {
-        Form::Refused
+        Form::Refused as usize
     }
 }
 
@@ -241,7 +217,9 @@ pub fn put_shown(out: &mut [u8], at: usize, form: &[u8], numbers: &[u64], body: 
     next
 }
 
-fn takes(mark: u8) -> usize {
+fn takes(mark: u8) -> usize
+    ensures { result ≤ 2 }
+{
     match mark {
         b'#' | b'%' | b'&' | b'@' | b'!' | b',' => 1,
         b'$' => 2,

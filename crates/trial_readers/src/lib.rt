@@ -31,7 +31,7 @@ fn read_common(s: &[u8]) -> Result<Shown, Refusal> {
     let kind = common_header::kind_of(header.msg_type) as u64;
     let version = header.version as u64;
     let length = header.msg_len as u64;
-    Ok(trial_forms::of_five(Form::Common, 0, stop, stop, version, length, kind))
+    Ok(trial_forms::of_five(Form::Common as usize, 0, stop, stop, version, length, kind))
 }
 
 fn read_per_peer(s: &[u8]) -> Result<Shown, Refusal> {
@@ -61,7 +61,7 @@ fn read_per_peer(s: &[u8]) -> Result<Shown, Refusal> {
         Some(_) => Form::TimedPeer,
     };
     Ok(Shown {
-        form,
+        form: form as usize,
         count: 0,
         numbers,
     })
@@ -117,7 +117,7 @@ fn read_openbmp(s: &[u8]) -> Result<Shown, Refusal> {
         0,
     ];
     Ok(Shown {
-        form: Form::OpenBmp,
+        form: Form::OpenBmp as usize,
         count: 0,
         numbers,
     })
@@ -128,11 +128,19 @@ fn read_peer_down(s: &[u8]) -> Result<Shown, Refusal> {
     let stop = stop as u64;
     let reason = notification.reason.number() as u64;
     let shown = match notification.data {
-        None => trial_forms::of_five(Form::PeerDown, 0, stop, stop, reason, 0, 0),
+        None => trial_forms::of_five(Form::PeerDown as usize, 0, stop, stop, reason, 0, 0),
         Some(view) => {
             let place = view.place as u64;
             let length = view.length as u64;
-            trial_forms::of_five(Form::PeerDownData, 0, stop, stop, reason, place, length)
+            trial_forms::of_five(
+                Form::PeerDownData as usize,
+                0,
+                stop,
+                stop,
+                reason,
+                place,
+                length,
+            )
         }
     };
     Ok(shown)
@@ -148,7 +156,7 @@ fn read_monitoring(arguments: Arguments, s: &[u8]) -> Result<Shown, Refusal> {
     let place = message.bgp_message.place as u64;
     let length = message.bgp_message.length as u64;
     Ok(trial_forms::of_five(
-        Form::Monitoring,
+        Form::Monitoring as usize,
         0,
         stop,
         stop,
@@ -185,7 +193,7 @@ fn read_peer_up(arguments: Arguments, s: &[u8]) -> Result<Shown, Refusal> {
         0,
     ];
     Ok(Shown {
-        form: Form::PeerUp,
+        form: Form::PeerUp as usize,
         count: message.count,
         numbers,
     })
@@ -195,7 +203,15 @@ fn read_stats(s: &[u8]) -> Result<Shown, Refusal> {
     let answer = stats_report::parse_stats_report(s)?;
     let stop = answer.stop as u64;
     let count = answer.report.stats_count as u64;
-    Ok(trial_forms::of_five(Form::Stats, answer.report.count, stop, stop, count, 0, 0))
+    Ok(trial_forms::of_five(
+        Form::Stats as usize,
+        answer.report.count,
+        stop,
+        stop,
+        count,
+        0,
+        0,
+    ))
 }
 
 fn read_initiation(s: &[u8]) -> Result<Shown, Refusal> {
@@ -214,7 +230,15 @@ fn read_mirroring(s: &[u8]) -> Result<Shown, Refusal> {
 }
 
 fn table(stop: usize, tail: usize, count: usize) -> Shown {
-    trial_forms::of_five(Form::Tlvs, count, stop as u64, tail as u64, 0, 0, 0)
+    trial_forms::of_five(
+        Form::Tlvs as usize,
+        count,
+        stop as u64,
+        tail as u64,
+        0,
+        0,
+        0,
+    )
 }
 
 pub fn split(s: &[u8]) -> Shown {
@@ -236,5 +260,5 @@ pub fn split(s: &[u8]) -> Shown {
 }
 
 fn split_off(form: Form, stop: u64, msg_len: u32, kind: u8) -> Shown {
-    trial_forms::of_five(form, 0, stop, stop, msg_len as u64, kind as u64, 0)
+    trial_forms::of_five(form as usize, 0, stop, stop, msg_len as u64, kind as u64, 0)
 }
