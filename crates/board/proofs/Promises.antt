@@ -55,7 +55,7 @@ same_shown xs ys k e nx ny =
     ∙ ap shown_of (by_itself xs [] k (rw px.0 at nx) ∙ (ap (key_run (find k [])) e ∙ sym (by_itself ys [] k (rw py.0 at ny))))
     ∙ sym (py.1 k)
 
--- Nothing of a peer that went stays: at a place that no peer uses, place and peer are all zero.
+-- Nothing of a peer that went stays: at a place that no peer uses, place and peer are None, which holds nothing.
 pub free_is_zero : (xs : List Call) (i : ℕ)
     → ZeroIfFree (get_or (board_run empty_board xs).1.places i free_place) (get_or (board_run empty_board xs).1.peers i silent)
 free_is_zero xs i = let p = (run_holds empty_board [] empty_holds xs).1 in zero_at xs i (p.places_long ∙ sym p.peers_long)

@@ -1,4 +1,4 @@
--- On a board that began empty, nothing of a peer that went stays: what no peer uses is all zero. Assumes nothing.
+-- On a board that began empty, nothing of a peer that went stays: what no peer uses is None. Assumes nothing.
 use mathlib.Core.Path.{◌≡◌, refl, sym, ◌∙◌}
 use native.Mathlib.Omega.{arith}
 use Prim.Native.Nat.{ℕ, zero, suc}

@@ -6,7 +6,7 @@ use Rattle.wire.specs.Bytes.{be}
 use Rattle.wire.proofs.Determined.{determined}
 use Rattle.writing.specs.Write.{put_at}
 
--- Two outputs that put_u8, put_u16, put_u32 or put_u64 (w is 1, 2, 4 or 8) may leave are equal.
+-- Two outputs that PutNumber::put of a u8, u16, u32 or u64 (w is 1, 2, 4 or 8) may leave are equal.
 pub put_number_determined : (w n : ℕ) (out : List ℕ) (at : ℕ) (out' out'' : List ℕ)
     → out' ≡ put_at out at (be w n) → out'' ≡ put_at out at (be w n) → out' ≡ out''
 put_number_determined w n out at out' out'' = determined

@@ -97,9 +97,10 @@ unique r q g h e = sym (parts_join r g) ∙ ap parts_of e ∙ parts_join q h
 
 -- ---- what is accepted and what is refused, for every input that is not too long
 module _ (s : List ℕ) (short : length s ≤ Number.limit) where
-  -- Whatever 42 bytes begin with a type of 0 to 3 are accepted.
-  pub accepts : 42 ≤ length s → num_at 1 s 0 ≤ 3 → refusal_of (read_per_peer_header s) ≡ no_refusal
-  accepts long known = ap refusal_of (shows_parts s (record { short = short; long = long; known = known }))
+  -- Whatever 42 bytes begin with a type of 0 to 3 are accepted, and their parts are shown.
+  pub accepts : 42 ≤ length s → num_at 1 s 0 ≤ 3
+      → (refusal_of (read_per_peer_header s) ≡ no_refusal) × (read_per_peer_header s ≡ shown (parts_of s))
+  accepts long known = let shows = shows_parts s (record { short = short; long = long; known = known }) in (ap refusal_of shows, shows)
 
   -- A type above 3 is refused at its place, however much is missing behind it.
   pub refuses_type : 0 < length s → 3 < num_at 1 s 0 → read_per_peer_header s ≡ refused (refusal Number.UnknownKind 0)
