@@ -24,8 +24,8 @@ use Rattle.tlv_head.proofs.Heads.{Head, was_found, was_short}
 use Rattle.initiation_message.specs.Shown.{entry}
 use Rattle.initiation_message.specs.Read.{step, stop_behind, Stepped, step_at}
 use Rattle.initiation_message.specs.declared.InitiationTlv.{InitiationTlv}
-use Rattle.walk.specs.Walk.{step_of}
-use Rattle.walk.specs.declared.Step.TheVariants.{Stop, Whole}
+use Rattle.walk.specs.Lent.{step_of}
+use Rattle.walk.specs.declared.lent.Step.TheVariants.{Stop, Whole}
 
 pub data Seen (s : List ℕ) : Walk.Step Tlv → Type 0 where
   none : NoTlv s → Seen s stop

@@ -9,8 +9,9 @@ use Rattle.wire.specs.Walk as Walk
 use Rattle.wire.specs.Walk.{stop, item, Kit, Out, good, refused, read_from}
 use Rattle.wire.specs.Exactly.{Reader}
 use Rattle.wire.specs.declared.Refusal.{Refusal}
-use Rattle.walk.specs.Walk.{kit_of, step_of}
-use Rattle.walk.specs.declared.Step.{Step}
+use Rattle.walk.specs.Walk.{kit_of}
+use Rattle.walk.specs.Lent.{step_of}
+use Rattle.walk.specs.declared.lent.Step.{Step}
 use Rattle.initiation_message.specs.Told as Told
 use Rattle.initiation_message.specs.Grammar.{places, grammar}
 use Rattle.initiation_message.specs.Shown.{entry, zero_tlv, ReadInitiation, good_answer, refused_answer, refusal_of, tail_at, shown}

@@ -7,7 +7,7 @@ ghost use Rattle.initiation_message.specs.Shown.{type_of, kind_of, info_of, entr
 ghost use Rattle.initiation_message.specs.Read.{step, stop_behind, read_initiation};
 
 use cursor::Cursor;
-use walk::{Entry, Step};
+use walk::lent::{Entry, Step};
 use wire::{Refusal, View};
 
 #[derive(Clone, Copy)]
@@ -93,7 +93,7 @@ pub fn parse_initiation_message(s: &[u8]) -> Result<InitiationAnswer, Refusal>
     ensures { result ≡ read_initiation s.now }
 {
     let mut tlvs = [InitiationTlv::NONE; wire::TLV_PLACES];
-    let walked = walk::walk(s, 0, s.len(), &mut tlvs)?;
+    let walked = walk::lent::walk(s, 0, s.len(), &mut tlvs)?;
     Ok(InitiationAnswer {
         stop: walked.stop,
         tail: walked.end,
@@ -140,5 +140,44 @@ impl Entry for InitiationTlv {
             place: place as u32,
         };
         Ok(Step::Whole(Cursor { at: place + size }))
+    }
+}
+
+#[cfg(test)]
+mod tests {
+    use super::*;
+    use std::test::Fail;
+
+    // Two whole TLVs, and a tail of three bytes.
+    const BODY: [u8; 14] = [0, 2, 0, 1, 114, 0, 1, 0, 2, 118, 49, 9, 9, 9];
+
+    #[test]
+    fn a_step_hands_back_its_entry(rt: HostRuntime) -> Result<(), Fail> {
+        let found = <InitiationTlv as walk::Entry>::step_at(&BODY, 5)
+            .ok()
+            .ok_or("refused")?;
+        let walk::Step::Whole(tlv, next) = found else {
+            return Err(Fail::from("no TLV"));
+        };
+        assert_eq!(rt; (tlv.kind, tlv.info_len, tlv.place, next.at), (1, 2, 9, 11));
+        let end = <InitiationTlv as walk::Entry>::step_at(&BODY, 11);
+        assert!(rt; matches!(end, Ok(walk::Step::Stop(11))));
+        Ok(())
+    }
+
+    #[test]
+    fn a_walk_by_value_fills_the_table(rt: HostRuntime) -> Result<(), Fail> {
+        let mut table = [InitiationTlv::NONE; 2];
+        let walked = walk::walk(&BODY, 0, BODY.len(), &mut table)
+            .ok()
+            .ok_or("refused")?;
+        assert_eq!(rt; (walked.count, walked.end, walked.stop), (2, 11, 11));
+        assert_eq!(rt; (table[0].kind, table[0].place), (2, 4));
+        assert_eq!(rt; (table[1].kind, table[1].place), (1, 9));
+        let full = walk::walk(&BODY, 0, BODY.len(), &mut table[..1])
+            .map(|walked| walked.count)
+            .map_err(|refusal| (refusal.number, refusal.place));
+        assert_eq!(rt; full, Err((wire::TOO_MANY, 5)));
+        Ok(())
     }
 }

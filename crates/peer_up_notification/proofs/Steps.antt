@@ -24,8 +24,8 @@ use Rattle.wire.proofs.Needs.{was_met, was_cut, cut_from}
 use Rattle.peer_up_notification.specs.Shown.{shown_tlv, entry}
 use Rattle.peer_up_notification.specs.Read.{step, stop_at, Stepped, step_at}
 use Rattle.peer_up_notification.specs.declared.PeerUpNotificationTlv.{PeerUpNotificationTlv}
-use Rattle.walk.specs.Walk.{step_of}
-use Rattle.walk.specs.declared.Step.TheVariants.{Stop, Whole}
+use Rattle.walk.specs.Lent.{step_of}
+use Rattle.walk.specs.declared.lent.Step.TheVariants.{Stop, Whole}
 
 pub data Seen (s : List ℕ) : Walk.Step Tlv → Type 0 where
   none : length s ≤ 3 → Seen s stop

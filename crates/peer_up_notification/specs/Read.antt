@@ -13,8 +13,9 @@ use Rattle.wire.specs.declared.Refusal.{Refusal}
 use Rattle.wire.specs.declared.View.{View}
 use Rattle.wire.specs.Exactly.{Reader}
 use Rattle.cursor.specs.declared.Cursor.{Cursor}
-use Rattle.walk.specs.Walk.{kit_of, step_of}
-use Rattle.walk.specs.declared.Step.{Step}
+use Rattle.walk.specs.Walk.{kit_of}
+use Rattle.walk.specs.Lent.{step_of}
+use Rattle.walk.specs.declared.lent.Step.{Step}
 use Rattle.layout.specs.Layout.{cut_in}
 use Rattle.addresses.specs.Address.{sixteen_at, shown_ip}
 use Rattle.models.specs.declared.Afi.{Afi}

@@ -13,7 +13,7 @@ use cursor::Cursor;
 use models::{Afi, IpAddr};
 use numbers::WireNumber;
 use per_peer_type::BmpPeerType;
-use walk::{Entry, Step};
+use walk::lent::{Entry, Step};
 use wire::{Refusal, View};
 
 // 1 and 2 are the names of an Initiation message, whose numbers Peer Up shared before RFC 9736.
@@ -130,7 +130,7 @@ pub fn parse_peer_up_notification(
 {
     let (sent_open, received_open, behind) = read_opens(s)?;
     let mut tlvs = [PeerUpNotificationTlv::NONE; wire::TLV_PLACES];
-    let walked = walk::walk(s, behind, s.len(), &mut tlvs)?;
+    let walked = walk::lent::walk(s, behind, s.len(), &mut tlvs)?;
     Ok(PeerUpAnswer {
         stop: walked.stop,
         warnings: warnings_of(peer_type, &tlvs[..walked.count]),
@@ -233,4 +233,25 @@ fn warnings_of(peer_type: BmpPeerType, tlvs: &[PeerUpNotificationTlv]) -> u32
     let of_bad = if bad { models::BAD_TABLE_NAME } else { 0 };
     let of_none = if named { 0 } else { models::NO_TABLE_NAME };
     of_bad + of_none
+}
+
+#[cfg(test)]
+mod tests {
+    use super::*;
+    use std::test::Fail;
+
+    #[test]
+    fn a_step_hands_back_its_entry(rt: HostRuntime) -> Result<(), Fail> {
+        let body = [1, 0, 0, 0, 2, 104, 105, 0];
+        let found = <PeerUpNotificationTlv as walk::Entry>::step_at(&body, 1)
+            .ok()
+            .ok_or("refused")?;
+        let walk::Step::Whole(tlv, next) = found else {
+            return Err(Fail::from("no TLV"));
+        };
+        assert_eq!(rt; (tlv.kind, tlv.info_len, tlv.place, next.at), (0, 2, 5, 7));
+        let end = <PeerUpNotificationTlv as walk::Entry>::step_at(&body, 7);
+        assert!(rt; matches!(end, Ok(walk::Step::Stop(7))));
+        Ok(())
+    }
 }

@@ -28,8 +28,8 @@ use Rattle.route_mirroring.specs.Grammar.{Tlv, size_of}
 use Rattle.route_mirroring.specs.Shown.{entry}
 use Rattle.route_mirroring.specs.Read.{message_of, information_of, message_step, information_step, step, stop_at, Stepped, stepped, step_at}
 use Rattle.route_mirroring.specs.declared.RouteMirroringTlv.{RouteMirroringTlv}
-use Rattle.walk.specs.Walk.{step_of}
-use Rattle.walk.specs.declared.Step.TheVariants.{Stop, Whole}
+use Rattle.walk.specs.Lent.{step_of}
+use Rattle.walk.specs.declared.lent.Step.TheVariants.{Stop, Whole}
 
 -- a whole TLV of each type at the front of the bytes
 pub record Message (s : List ℕ) : Type 0 where

@@ -8,8 +8,9 @@ use Rattle.wire.specs.Walk as Walk
 use Rattle.wire.specs.Walk.{stop, bad, item, Kit, Out, good, refused, read_from}
 use Rattle.wire.specs.Exactly.{Reader}
 use Rattle.wire.specs.declared.Refusal.{Refusal}
-use Rattle.walk.specs.Walk.{kit_of, step_of}
-use Rattle.walk.specs.declared.Step.{Step}
+use Rattle.walk.specs.Walk.{kit_of}
+use Rattle.walk.specs.Lent.{step_of}
+use Rattle.walk.specs.declared.lent.Step.{Step}
 use Rattle.route_mirroring.specs.Grammar.{Tlv, bgp_message, information, places, size_of, grammar}
 use Rattle.route_mirroring.specs.Told as Told
 use Rattle.route_mirroring.specs.Shown.{entry, zero_tlv, ReadMirroring, good_answer, refused_answer, refusal_of, stop_of, shown}

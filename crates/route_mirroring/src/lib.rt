@@ -9,7 +9,7 @@ ghost use Rattle.route_mirroring.specs.Shown.{info_of, code_of, value_of, entry,
 ghost use Rattle.route_mirroring.specs.Read.{message_step, information_step, step, stop_at, stepped, read_mirroring};
 
 use cursor::Cursor;
-use walk::{Entry, Step};
+use walk::lent::{Entry, Step};
 use wire::{Refusal, View};
 
 #[derive(Clone, Copy)]
@@ -80,7 +80,7 @@ pub fn parse_route_mirroring(s: &[u8]) -> Result<RouteMirroringAnswer, Refusal>
     ensures { result ≡ read_mirroring s.now }
 {
     let mut tlvs = [RouteMirroringTlv::NONE; wire::TLV_PLACES];
-    let walked = walk::walk(s, 0, s.len(), &mut tlvs)?;
+    let walked = walk::lent::walk(s, 0, s.len(), &mut tlvs)?;
     Ok(RouteMirroringAnswer {
         stop: walked.stop,
         message: RouteMirroring {
@@ -182,5 +182,26 @@ fn info_of(code: u32) -> RouteMirroringInfo
     match code {
         0 => RouteMirroringInfo::ErroredPdu,
         _ => RouteMirroringInfo::MessageLost,
+    }
+}
+
+#[cfg(test)]
+mod tests {
+    use super::*;
+    use std::test::Fail;
+
+    #[test]
+    fn a_step_hands_back_its_entry(rt: HostRuntime) -> Result<(), Fail> {
+        let body = [1, 0, 1, 0, 2, 0, 1, 0, 0];
+        let found = <RouteMirroringTlv as walk::Entry>::step_at(&body, 1)
+            .ok()
+            .ok_or("refused")?;
+        let walk::Step::Whole(tlv, next) = found else {
+            return Err(Fail::from("no TLV"));
+        };
+        assert_eq!(rt; (tlv.kind, tlv.info_len, tlv.number, next.at), (1, 2, 1, 7));
+        let end = <RouteMirroringTlv as walk::Entry>::step_at(&body, 7);
+        assert!(rt; matches!(end, Ok(walk::Step::Stop(7))));
+        Ok(())
     }
 }

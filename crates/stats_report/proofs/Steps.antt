@@ -29,8 +29,8 @@ use Rattle.stats_data.specs.Read.{value_of, read_data}
 use Rattle.stats_data.proofs.Values.{was_data, no_data}
 use Rattle.stats_report.specs.Read.{as_stat, step, head_cut, stop_at, Stepped, step_at}
 use Rattle.stats_report.specs.declared.StatCounter.{StatCounter}
-use Rattle.walk.specs.Walk.{step_of}
-use Rattle.walk.specs.declared.Step.TheVariants.{Whole}
+use Rattle.walk.specs.Lent.{step_of}
+use Rattle.walk.specs.declared.lent.Step.TheVariants.{Whole}
 
 pub data Seen (s : List ℕ) : Walk.Step Stat → Type 0 where
   no_type : length s < 2 → Seen s (bad (cut_at (length s) 0 2))

@@ -12,8 +12,9 @@ use Rattle.layout.specs.Layout.{cut_in}
 use Rattle.wire.specs.Exactly.{Reader}
 use Rattle.wire.specs.declared.Refusal.{Refusal}
 use Rattle.cursor.specs.declared.Cursor.{Cursor}
-use Rattle.walk.specs.Walk.{kit_of, step_of}
-use Rattle.walk.specs.declared.Step.{Step}
+use Rattle.walk.specs.Walk.{kit_of}
+use Rattle.walk.specs.Lent.{step_of}
+use Rattle.walk.specs.declared.lent.Step.{Step}
 use Rattle.stats_data.specs.Read.{value_of}
 use Rattle.stats_report.specs.Grammar.{Stat, places, size_of, grammar}
 use Rattle.stats_report.specs.Told as Told

@@ -10,7 +10,7 @@ ghost use Rattle.stats_report.specs.Read.{count_of, head_cut, step, stop_at, rea
 use cursor::Cursor;
 use stats_data::StatsData;
 use stats_type::StatType;
-use walk::{Entry, Step};
+use walk::lent::{Entry, Step};
 use wire::Refusal;
 
 // How many counters the table of a report holds.
@@ -64,7 +64,7 @@ pub fn parse_stats_report(s: &[u8]) -> Result<StatsAnswer, Refusal>
 {
     let (stats_count, behind) = read_count(s)?;
     let mut counters = [StatCounter::NONE; COUNTER_PLACES];
-    let walked = walk::walk(s, behind.at, stats_count as usize, &mut counters)?;
+    let walked = walk::lent::walk(s, behind.at, stats_count as usize, &mut counters)?;
     Ok(StatsAnswer {
         stop: walked.end,
         report: StatsReport {
@@ -131,4 +131,36 @@ fn head_cut(s: &[u8], at: usize) -> Refusal
 {
     let widths = [2usize, 2];
     layout::cut_in(&widths, at, s.len())
+}
+
+#[cfg(test)]
+mod tests {
+    use super::*;
+    use std::test::Fail;
+
+    #[test]
+    fn a_step_hands_back_its_entry(rt: HostRuntime) -> Result<(), Fail> {
+        let body = [1, 0, 6, 0, 4, 0, 0, 1, 2];
+        let found = <StatCounter as walk::Entry>::step_at(&body, 1)
+            .ok()
+            .ok_or("refused")?;
+        let walk::Step::Whole(counter, next) = found else {
+            return Err(Fail::from("no counter"));
+        };
+        assert_eq!(rt;
+            (counter.kind, counter.stat_len, counter.value, next.at),
+            (6, 4, 258, 9)
+        );
+        let end = <StatCounter as walk::Entry>::step_at(&body, 9);
+        let cut = matches!(
+            end,
+            Err(Refusal {
+                number: wire::CUT,
+                place: 9,
+                ..
+            })
+        );
+        assert!(rt; cut);
+        Ok(())
+    }
 }

@@ -30,8 +30,8 @@ use Rattle.termination_message.specs.Grammar.{Tlv, size_of}
 use Rattle.termination_message.specs.Shown.{entry}
 use Rattle.termination_message.specs.Read.{string_in, reason_in, step, stop_behind, StepAnswer, step_at}
 use Rattle.termination_message.specs.declared.TerminationTlv.{TerminationTlv}
-use Rattle.walk.specs.Walk.{step_of}
-use Rattle.walk.specs.declared.Step.TheVariants.{Stop, Whole}
+use Rattle.walk.specs.Lent.{step_of}
+use Rattle.walk.specs.declared.lent.Step.TheVariants.{Stop, Whole}
 
 -- bytes that begin with a TLV of this type, whose length does not exceed what follows it
 pub record Begun (s : List ℕ) (kind : ℕ) : Type 0 where

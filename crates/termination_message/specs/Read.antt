@@ -8,8 +8,9 @@ use Rattle.wire.specs.Walk as Walk
 use Rattle.wire.specs.Walk.{stop, bad, item, Kit, Out, good, refused, read_from}
 use Rattle.wire.specs.Exactly.{Reader}
 use Rattle.wire.specs.declared.Refusal.{Refusal}
-use Rattle.walk.specs.Walk.{kit_of, step_of}
-use Rattle.walk.specs.declared.Step.{Step}
+use Rattle.walk.specs.Walk.{kit_of}
+use Rattle.walk.specs.Lent.{step_of}
+use Rattle.walk.specs.declared.lent.Step.{Step}
 use Rattle.termination_message.specs.Grammar.{Tlv, string, reason, size_of, places, grammar}
 use Rattle.termination_message.specs.Told as Told
 use Rattle.termination_message.specs.Shown.{entry, zero_tlv, ReadTermination, good_answer, refused_answer, refusal_of, tail_at, shown}

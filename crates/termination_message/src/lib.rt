@@ -7,7 +7,7 @@ ghost use Rattle.termination_message.specs.Shown.{type_of, reason_of, code_of, v
 ghost use Rattle.termination_message.specs.Read.{step, stop_behind, read_termination};
 
 use cursor::Cursor;
-use walk::{Entry, Step};
+use walk::lent::{Entry, Step};
 use wire::{Refusal, View};
 
 #[derive(Clone, Copy)]
@@ -105,7 +105,7 @@ pub fn parse_termination_message(s: &[u8]) -> Result<TerminationAnswer, Refusal>
     ensures { result ≡ read_termination s.now }
 {
     let mut tlvs = [TerminationTlv::NONE; wire::TLV_PLACES];
-    let walked = walk::walk(s, 0, s.len(), &mut tlvs)?;
+    let walked = walk::lent::walk(s, 0, s.len(), &mut tlvs)?;
     Ok(TerminationAnswer {
         stop: walked.stop,
         tail: walked.end,
@@ -183,5 +183,26 @@ fn reason_of(code: u32) -> TerminationReason
         2 => TerminationReason::OutOfResources,
         3 => TerminationReason::RedundantConnection,
         _ => TerminationReason::PermanentlyAdministrativelyClosed,
+    }
+}
+
+#[cfg(test)]
+mod tests {
+    use super::*;
+    use std::test::Fail;
+
+    #[test]
+    fn a_step_hands_back_its_entry(rt: HostRuntime) -> Result<(), Fail> {
+        let body = [1, 0, 1, 0, 2, 0, 3, 0, 0];
+        let found = <TerminationTlv as walk::Entry>::step_at(&body, 1)
+            .ok()
+            .ok_or("refused")?;
+        let walk::Step::Whole(tlv, next) = found else {
+            return Err(Fail::from("no TLV"));
+        };
+        assert_eq!(rt; (tlv.kind, tlv.info_len, tlv.number, next.at), (1, 2, 3, 7));
+        let end = <TerminationTlv as walk::Entry>::step_at(&body, 7);
+        assert!(rt; matches!(end, Ok(walk::Step::Stop(7))));
+        Ok(())
     }
 }

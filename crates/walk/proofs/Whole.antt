@@ -17,7 +17,7 @@ use Rattle.wire.specs.Walk.{stop, bad, item, Kit, Out, good, refused, resume}
 use Rattle.wire.specs.declared.Refusal.{Refusal}
 use Rattle.wire.proofs.Waits.{said}
 use Rattle.wire.proofs.Walk.{Takes, resume_done, resume_stop, resume_bad, resume_full, resume_room}
-use Rattle.walk.specs.Walk.{handed, StopsAt, outcome, Walks}
+use Rattle.walk.specs.Walk.{handed, StopsAt, outcome, Walks, WalksAndLeaves}
 use Rattle.walk.specs.declared.Walked.{Walked}
 
 -- what a good outcome says
@@ -50,6 +50,11 @@ module _ (K : Kit) (takes : Takes K) (s : List ℕ) where
               let t = (takes (drop at s) a e).0 in
               rw (resume_room K n at table s (suc f) f refl a e (leb-false K.limit n h))
               (i (n + 1) (at + K.size a) (set table n (K.entry at a)) (omega arith))
+
+-- ---- what a walk answers, without what it leaves where it refuses
+pub walks_of : {K : Kit} {stop_at : ℕ → List ℕ → ℕ} {most start : ℕ} {s : List ℕ} {old : List K.Entry} {r : Result Walked Refusal} {new : List K.Entry}
+    → WalksAndLeaves K stop_at most start s old r new → Walks K stop_at most start s old r new
+walks_of w = record { handed_back = w.handed_back; stops = w.stops }
 
 -- ---- a reader's answer that is made of what such a walk hands back
 module _ (K : Kit) (stop_at : ℕ → List ℕ → ℕ) (most start : ℕ) (s : List ℕ) (old : List K.Entry) {r : Result Walked Refusal} {table : List K.Entry}
@@ -113,7 +118,7 @@ module _ (K : Kit) (s : List ℕ) where
 -- ---- what a walk answers and what it leaves of the table is determined, where it is refused too
 module _ (K : Kit) (stop_at : ℕ → List ℕ → ℕ) (most start : ℕ) (s : List ℕ) (old : List K.Entry) where
   pub walk_determined : (r q : Result Walked Refusal) (new other : List K.Entry)
-      → Walks K stop_at most start s old r new → Walks K stop_at most start s old q other → (r ≡ q) × (new ≡ other)
+      → WalksAndLeaves K stop_at most start s old r new → WalksAndLeaves K stop_at most start s old q other → (r ≡ q) × (new ≡ other)
   walk_determined r q new other v w = (go r q v.stops w.stops (v.handed_back ∙ sym w.handed_back), v.leaves ∙ sym w.leaves)
     where
       go : (r q : Result Walked Refusal) → StopsAt stop_at most s r → StopsAt stop_at most s q → handed s r new ≡ handed s q other → r ≡ q

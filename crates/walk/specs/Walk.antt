@@ -16,11 +16,11 @@ abbrev pub kit_of : (I E : Type 0) → (List ℕ → Wire.Step I) → (I → ℕ
 kit_of I E step size entry none limit = record { Item = I; Entry = E; step = step; size = size; entry = entry; none = none; limit = limit }
 
 -- what stands at a place, as the code answers it: the place where the walk stops, which may lie behind the head of what is not whole; a fault; or
--- the cursor past the item there. Beside it what the entry holds that was lent: the item's, or what it held
-abbrev pub step_of : {I E : Type 0} → (ℕ → I → E) → (I → ℕ) → (ℕ → List ℕ → ℕ) → ℕ → List ℕ → E → Wire.Step I → Result Step Refusal × E
-step_of entry size stop_at at s e stop = (Ok (Stop (stop_at at s)), e)
-step_of entry size stop_at at s e (bad r) = (Err (from at r), e)
-step_of entry size stop_at at s e (item t) = (Ok (Whole (cursor (at + size t))), entry at t)
+-- the entry that shows the item there, and the cursor past it
+abbrev pub step_of : {I E : Type 0} → (ℕ → I → E) → (I → ℕ) → (ℕ → List ℕ → ℕ) → ℕ → List ℕ → Wire.Step I → Result (Step E) Refusal
+step_of entry size stop_at at s stop = Ok (Stop (stop_at at s))
+step_of entry size stop_at at s (bad r) = Err (from at r)
+step_of entry size stop_at at s (item t) = Ok (Whole (entry at t) (cursor (at + size t)))
 
 -- an answer and the table, as what a walk hands back
 abbrev pub handed : {E : Type 0} → List ℕ → Result Walked Refusal → List E → Out E
@@ -47,7 +47,13 @@ abbrev pub left_in : (K : Kit) → ℕ → ℕ → List K.Entry → List ℕ →
 left_in K most start table s =
     pick (ltb Number.limit (length s)) table (filled K 0 start table (walk K most (drop start s)).items)
 
+-- what a walk answers, with the table as it leaves it, and where a good answer says that it stopped
 pub record Walks (K : Kit) (stop_at : ℕ → List ℕ → ℕ) (most start : ℕ) (s : List ℕ) (old : List K.Entry) (r : Result Walked Refusal) (new : List K.Entry) : Type 0 where
+  pub handed_back : handed s r new ≡ outcome K most start old s
+  pub stops : StopsAt stop_at most s r
+
+-- the same, and what it leaves of the table where it refuses
+pub record WalksAndLeaves (K : Kit) (stop_at : ℕ → List ℕ → ℕ) (most start : ℕ) (s : List ℕ) (old : List K.Entry) (r : Result Walked Refusal) (new : List K.Entry) : Type 0 where
   pub handed_back : handed s r new ≡ outcome K most start old s
   pub leaves : new ≡ left_in K most start old s
   pub stops : StopsAt stop_at most s r

@@ -4,16 +4,18 @@
 ghost use Rattle.std.specs.Prelude.{◌≡◌, ℕ, ◌≤◌, List, length, drop};
 ghost use Rattle.wire.specs.Number as Number;
 ghost use Rattle.wire.specs.Walk as Wire;
-ghost use Rattle.walk.specs.Walk.{kit_of, step_of, Walks};
+ghost use Rattle.walk.specs.Walk.{kit_of, step_of, WalksAndLeaves};
+
+pub mod lent;
 
 use cursor::Cursor;
 use wire::Refusal;
 
-// What stands at a place of the walk: its end, with the place where it stops; or an item, with the cursor past it.
+// What stands at a place of the walk: its end, with the place where it stops; or an entry for the table, and the cursor past its item.
 #[derive(Clone, Copy)]
-pub enum Step {
+pub enum Step<E> {
     Stop(usize),
-    Whole(Cursor),
+    Whole(E, Cursor),
 }
 
 // How many entries were filled, where the last of their items ends, and where the walk stopped.
@@ -24,11 +26,9 @@ pub struct Walked {
     pub stop: usize,
 }
 
-// An entry of a table, and how the next one is found. The walk asks for steps only where the input is no longer than is read.
+// An entry of a table, and how the next one is found. The walk asks for steps only where the input is no longer than is read. A step hands its
+// entry back; one that puts it into an entry that it is lent costs less, and is an Entry of the module lent.
 pub trait Entry: Copy {
-    // What an entry is that shows no item.
-    const NONE: Self;
-
     ghost Item: { Type 0 };
 
     ghost step: { List ℕ → Wire.Step Item };
@@ -37,15 +37,13 @@ pub trait Entry: Copy {
 
     ghost entry: { ℕ → Item → Self };
 
-    ghost NONE: { Self };
+    ghost none: { Self };
 
     ghost stop_at: { ℕ → List ℕ → ℕ };
 
-    // The entry that shows the item is put into the one that is lent: handed back beside a place it would go over the stack. What is no item
-    // changes nothing.
-    fn step_at(s: &[u8], at: usize, slot: &mut Self) -> Result<Step, Refusal>
+    fn step_at(s: &[u8], at: usize) -> Result<Step<Self>, Refusal>
         requires { length s.now ≤ Number.limit }
-        ensures { (result, slot.new) ≡ step_of entry size stop_at at (drop at s.now) slot.old (step (drop at s.now)) };
+        ensures { result ≡ step_of entry size stop_at at (drop at s.now) (step (drop at s.now)) };
 }
 
 // Walks from a place on over at most so many items; one more than the table holds is refused.
@@ -55,15 +53,14 @@ pub fn walk<E: Entry>(
     most: usize,
     table: &mut [E],
 ) -> Result<Walked, Refusal>
-    ensures { Walks (kit_of E.Item E E.step E.size E.entry E.NONE (length table.old)) E.stop_at most start s.now table.old result table.new }
+    ensures { WalksAndLeaves (kit_of E.Item E E.step E.size E.entry E.none (length table.old)) E.stop_at most start s.now table.old result table.new }
 {
     if wire::LIMIT < s.len() {
         return Err(wire::refusal_at(wire::TOO_LONG, 0));
     }
     let mut at = start;
     for count in 0..most {
-        let mut entry = E::NONE;
-        match E::step_at(s, at, &mut entry)? {
+        match E::step_at(s, at)? {
             Step::Stop(stop) => {
                 return Ok(Walked {
                     count,
@@ -71,7 +68,7 @@ pub fn walk<E: Entry>(
                     stop,
                 });
             }
-            Step::Whole(next) => {
+            Step::Whole(entry, next) => {
                 if table.len() <= count {
                     return Err(wire::refusal_at(wire::TOO_MANY, at));
                 }

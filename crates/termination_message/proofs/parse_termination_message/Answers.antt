@@ -5,7 +5,7 @@ use Rattle.std.specs.declared.result.Result.TheVariants.{Ok}
 use Rattle.wire.specs.declared.Refusal.{Refusal}
 use Rattle.walk.specs.Walk.{Walks}
 use Rattle.walk.specs.declared.Walked.{Walked}
-use Rattle.walk.proofs.Whole.{answers, stops_all}
+use Rattle.walk.proofs.Whole.{walks_of, answers, stops_all}
 use Rattle.termination_message.specs.Grammar.{places}
 use Rattle.termination_message.specs.Shown.{zero_tlv}
 use Rattle.termination_message.specs.Read.{kit, stop_behind, answer}
@@ -18,7 +18,7 @@ returns c =
     let w = c.in_ok-walked.walked in
     let none = replicate places zero_tlv in
     let h : Walks kit stop_behind (length s) 0 s none (Ok w) c.walk.new.table =
-    subst (λ (r : Result Walked Refusal). Walks kit stop_behind (length s) 0 s none r c.walk.new.table) c.in_ok-walked.was c.walk.ensures in
+    subst (λ (r : Result Walked Refusal). Walks kit stop_behind (length s) 0 s none r c.walk.new.table) c.in_ok-walked.was (walks_of c.walk.ensures) in
     let stop_is = stops_all kit takes stop_behind (λ at. refl) 0 s none w c.walk.new.table h in
     (λ i. Ok (record { stop = stop_is i; tail = w.end; message = record { tlvs = c.walk.new.table; count = w.count } }))
     ∙ answers kit stop_behind (length s) 0 s none h answer
