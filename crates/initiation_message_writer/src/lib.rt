@@ -72,3 +72,48 @@ fn entry_of(tlv: InitiationTlv) -> TlvEntry
         value: TlvValue::Part(tlv.info()),
     }
 }
+
+#[cfg(test)]
+mod tests {
+    use super::*;
+
+    // Two TLVs whose values are the first byte of the buffer and the two behind it.
+    const ENTRIES: [InitiationTlv; 2] = [
+        InitiationTlv {
+            kind: 2,
+            info_len: 1,
+            place: 0,
+        },
+        InitiationTlv {
+            kind: 1,
+            info_len: 2,
+            place: 1,
+        },
+    ];
+
+    const BUFFER: [u8; 3] = [114, 118, 49];
+
+    fn answer(front: usize, buffer_length: usize, room: usize) -> Result<usize, u8> {
+        table_writer::answer::<Tlvs>(front, &ENTRIES, buffer_length, room).map_err(
+            |refusal| refusal.number,
+        )
+    }
+
+    #[test]
+    fn a_table_is_measured(rt: HostRuntime) {
+        assert_eq!(rt; answer(4, 3, 20), Ok(15));
+        assert_eq!(rt; answer(4, 2, 20), Err(wire::BAD_FIELD));
+        assert_eq!(rt; answer(usize::MAX, 3, 20), Err(wire::TOO_LONG));
+        assert_eq!(rt; answer(10, 3, 20), Err(wire::NO_ROOM));
+    }
+
+    #[test]
+    fn a_table_is_put_whole_or_not_at_all(rt: HostRuntime) {
+        let mut out = [7; 13];
+        table_writer::put_all::<Tlvs>(&mut out, 1, &ENTRIES, &BUFFER);
+        assert_eq!(rt; out, [7, 0, 2, 0, 1, 114, 0, 1, 0, 2, 118, 49, 7]);
+        table_writer::put_all::<Tlvs>(&mut out, 3, &ENTRIES, &BUFFER);
+        table_writer::put_all::<Tlvs>(&mut out, 0, &ENTRIES, &BUFFER[..2]);
+        assert_eq!(rt; out, [7, 0, 2, 0, 1, 114, 0, 1, 0, 2, 118, 49, 7]);
+    }
+}

@@ -16,11 +16,11 @@ use Rattle.wire.specs.declared.View.{View}
 use Rattle.std.specs.declared.result.Result.TheVariants.{Ok, Err}
 use Rattle.wire.proofs.Bytes.{number_is}
 use Rattle.wire.proofs.Views.{inside_is, bytes_viewed}
-use Rattle.writing.specs.Table.{joined, all_ok}
+use Rattle.writing.specs.Table.{joined, all_ok, sizes}
 use Rattle.writing.specs.Write.{WriteAnswer, put_at, Wrote}
 use Rattle.writing.proofs.Sets.{sets_append, put_then, put_fits, length_put}
 use Rattle.writing.proofs.Tlv.{view_long}
-use Rattle.writing.proofs.Table.{Kept, kept_of}
+use Rattle.writing.proofs.Table.{Kept, kept_of, length_joined}
 use Rattle.table_writer.specs.Writer.{table_answer, table_written}
 use Rattle.table_writer.proofs.Behind.{refused_behind, front_fits, put_before}
 use Rattle.tlv_table.proofs.Table.{bodied}
@@ -221,6 +221,22 @@ front_put m b out o1 o2 sixteen e1 e2 =
     e2 ∙ ap₂ (λ (o : List ℕ) (k : ℕ). sets o k opens) e1 (sym (zero-add (length ends) ∙ length_endpoints m.local_addr m.local_port m.remote_port sixteen))
     ∙ sym (sets_append ends opens out 0)
 
+-- ---- the whole: how many bytes a writable record takes, and that they are put
+module _ (m : PeerUpNotification) (b : List ℕ) (p : Bytes b) (sixteen : length m.local_addr.octets ≡ 16) where
+  pub bytes_long : writable m b ≡ true → length (bytes_of m b) ≡ front_length m + sizes writer (kept m)
+  bytes_long e =
+      let w = writes_of m b e in
+      length_bytes m b w.front sixteen p ∙ ap (λ (n : ℕ). front_length m + n) (length_joined writer (bodied entries) b (kept m) w.table.fine)
+
+  -- the fixed part and the OPENs put in front, and the table behind them
+  pub put_whole : FineFront m b → (out o1 o2 o3 : List ℕ) → o1 ≡ sets out 0 (endpoint_bytes m.local_addr m.local_port m.remote_port)
+      → o2 ≡ sets o1 20 (open_bytes b m.sent_open m.received_open) → o3 ≡ sets o2 (front_length m) (joined writer b (kept m)) → o3 ≡ sets out 0 (bytes_of m b)
+  put_whole w out o1 o2 o3 e1 e2 e3 =
+      let t = joined writer b (kept m) in
+      let at : front_length m ≡ 0 + length (front_bytes m b) = sym (zero-add (length (front_bytes m b)) ∙ length_front m b w sixteen) in
+      e3 ∙ ap₂ (λ (o : List ℕ) (i : ℕ). sets o i t) (front_put m b out o1 o2 sixteen e1 e2) at ∙ sym (sets_append (front_bytes m b) t out 0)
+      ∙ ap (sets out 0) (sym (bytes_are m b p w))
+
 -- ---- the table is refused, or put and then what stands in front of it
 module _ (m : PeerUpNotification) (b : List ℕ) (p : Bytes b) (sixteen : length m.local_addr.octets ≡ 16) (few : m.count ≤ places) (fine : front_ok m b ≡ true)
     (out o : List ℕ) (a : WriteAnswer)
@@ -237,7 +253,7 @@ module _ (m : PeerUpNotification) (b : List ℕ) (p : Bytes b) (sixteen : length
   pub room : {n : ℕ} → a ≡ Ok n → front_length m ≤ length o
   room e = front_fits (bodied entries) (front_bytes m b) (front_length m) (kept m) b out o a long asked left e
 
-  pub put_whole : {n : ℕ} → a ≡ Ok n → {o1 o2 : List ℕ} → o1 ≡ sets o 0 (endpoint_bytes m.local_addr m.local_port m.remote_port)
+  pub wrote_whole : {n : ℕ} → a ≡ Ok n → {o1 o2 : List ℕ} → o1 ≡ sets o 0 (endpoint_bytes m.local_addr m.local_port m.remote_port)
       → o2 ≡ sets o1 20 (open_bytes b m.sent_open m.received_open) → Wrote (writable m b) (bytes_of m b) out a o2
-  put_whole e {o1} {o2} e1 e2 =
+  wrote_whole e {o1} {o2} e1 e2 =
       whole (put_before (bodied entries) (front_bytes m b) (front_length m) (kept m) b out o a long asked left e (front_put m b o o1 o2 sixteen e1 e2))

@@ -1,5 +1,5 @@
 -- What the writing kit asks of a Route Mirroring body. Assumes nothing.
-use mathlib.Core.Path.{◌≡◌, refl}
+use mathlib.Core.Path.{◌≡◌, refl, ◌∙◌}
 use mathlib.Core.Bool.{Bool, true, false}
 use mathlib.Core.List.{List}
 use Prim.Native.Nat.{ℕ, zero, suc, ◌+◌, ◌≤◌, ◌<◌}
@@ -11,6 +11,8 @@ use Rattle.wire.specs.Bytes.{pick, be}
 use Rattle.wire.specs.declared.View.{View}
 use Rattle.writing.proofs.Tests.{both}
 use Rattle.writing.specs.Write.{WriteAnswer, Wrote}
+use Rattle.writing.specs.Table.{sizes}
+use Rattle.writing.proofs.Table.{kept_of, length_joined}
 use Rattle.tlv_table.specs.Tlvs.{entry_writable}
 use Rattle.tlv_table.specs.declared.TlvValue.TheVariants.{Part}
 use Rattle.table_writer.specs.Writer.{table_answer, table_written}
@@ -94,6 +96,10 @@ pub put_long : (t : Tlv) (r : List ℕ) → length (put t r) ≡ long_of t + len
 unfolding be
 put_long (bgp_message size value) r = omega (arith, length-append value r)
 put_long (information size code) r = omega arith
+
+-- ---- how many bytes a writable record takes
+pub bytes_long : (m : RouteMirroring) (b : List ℕ) → writable m (length b) ≡ true → length (bytes_of m b) ≡ 0 + sizes writer (kept m)
+bytes_long m b e = length_joined writer (bodied entries) b (kept m) (kept_of writer places m.count m.tlvs (length b) e).fine ∙ omega arith
 
 -- ---- the table is the whole record
 pub whole_written : (m : RouteMirroring) (b out o : List ℕ) (a : WriteAnswer) → m.count ≤ places

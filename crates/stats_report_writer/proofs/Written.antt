@@ -1,5 +1,5 @@
 -- What the writing kit asks of a Statistics body. Assumes nothing.
-use mathlib.Core.Path.{◌≡◌, refl, sym, ◌∙◌}
+use mathlib.Core.Path.{◌≡◌, refl, sym, ap, ◌∙◌}
 use mathlib.Core.Bool.{Bool, true, false}
 use mathlib.Core.List.{List, ◌++◌}
 use mathlib.Core.Logic.{inl, inr, ⊎_elim}
@@ -9,11 +9,12 @@ use native.Mathlib.Nat.{mod-eq_of_lt}
 use borrow.Author.Tests.{ltb-true, ltb-false, eqb-true, eqb-false, lt-ltb, le-ltb, eq-eqb, ne_eqb}
 use lib.Dec.{ltb, eqb}
 use lib.ListN.{length}
+use lib.Seq.{sets}
 use Rattle.wire.specs.Bytes.{pick, be}
 use Rattle.writing.specs.Table.{joined, all_ok, sizes}
 use Rattle.writing.proofs.Tests.{both, past}
 use Rattle.writing.specs.Write.{WriteAnswer, put_at, Wrote}
-use Rattle.writing.proofs.Sets.{put_fits}
+use Rattle.writing.proofs.Sets.{sets_append, put_fits}
 use Rattle.writing.proofs.Table.{length_joined}
 use Rattle.wire.specs.View.{view}
 use Rattle.wire.specs.declared.Refusal.{Refusal}
@@ -119,6 +120,17 @@ pub length_bytes : (m : StatsReport) (b : List ℕ) → Writes m (length b) → 
 unfolding be
 length_bytes m b w = omega (arith, length_joined writer bodied b (kept m) w.fine)
 
+pub bytes_long : (m : StatsReport) (b : List ℕ) → writable m (length b) ≡ true → length (bytes_of m b) ≡ 4 + sizes writer (kept m)
+bytes_long m b e = length_bytes m b (writes_of m (length b) e)
+
+-- the count put in front, and the table behind it
+pub put_whole : (m : StatsReport) (b out o1 o2 : List ℕ) → 4 ≤ length out → o1 ≡ put_at out 0 (be 4 m.stats_count)
+    → o2 ≡ sets o1 4 (joined writer b (kept m)) → o2 ≡ sets out 0 (bytes_of m b)
+unfolding be
+put_whole m b out o1 o2 h e f =
+    f ∙ ap (λ (o : List ℕ). sets o 4 (joined writer b (kept m))) (e ∙ put_fits out 0 (be 4 m.stats_count) (omega arith))
+    ∙ sym (sets_append (be 4 m.stats_count) (joined writer b (kept m)) out 0)
+
 -- ---- the table is refused, or put and then the count in front of it
 module _ (m : StatsReport) (b out o : List ℕ) (a : WriteAnswer) (few : m.count ≤ places) (count_is : m.stats_count ≡ m.count)
     (asked : a ≡ table_answer writer 4 (kept m) b out) (left : o ≡ table_written writer 4 (kept m) b out) where
@@ -129,8 +141,8 @@ module _ (m : StatsReport) (b out o : List ℕ) (a : WriteAnswer) (few : m.count
   pub refused_whole : (r : Refusal) → a ≡ Err r → Wrote (writable m (length b)) (bytes_of m b) out a o
   refused_whole r e = whole (refused_behind bodied (be 4 m.stats_count) 4 (kept m) b out o a (length_be 4 m.stats_count) asked left e)
 
-  pub put_whole : (n : ℕ) (o' : List ℕ) → a ≡ Ok n → o' ≡ put_at o 0 (be 4 m.stats_count) → Wrote (writable m (length b)) (bytes_of m b) out a o'
-  put_whole n o' e p =
+  pub wrote_whole : (n : ℕ) (o' : List ℕ) → a ≡ Ok n → o' ≡ put_at o 0 (be 4 m.stats_count) → Wrote (writable m (length b)) (bytes_of m b) out a o'
+  wrote_whole n o' e p =
       let count = be 4 m.stats_count in
       let long = length_be 4 m.stats_count in
       let fits = front_fits bodied count 4 (kept m) b out o a long asked left e in

@@ -13,7 +13,7 @@ use wire::Refusal;
 
 // Writes the report, whose views point into the buffer, to the front of the output. The table is judged and measured in one pass
 // and written in a second, where it stands.
-#[tactic(auto, using(crate::proofs::Written::refused_whole, crate::proofs::Written::put_whole))]
+#[tactic(auto, using(crate::proofs::Written::refused_whole, crate::proofs::Written::wrote_whole))]
 pub fn write_stats_report(
     report: StatsReport,
     buffer: &[u8],

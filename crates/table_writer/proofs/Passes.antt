@@ -1,8 +1,8 @@
--- The two loops over a table, for every kind of table: the first judges and measures it, the second puts it. Assumes nothing.
+-- The loops over a table, for every kind of table: it is judged and measured, or judged and held against the room, and then put. Assumes nothing.
 use mathlib.Core.Path.{◌≡◌, refl, sym, ap, ap₂, ◌∙◌, subst}
 use mathlib.Core.Bool.{Bool, true, false}
 use mathlib.Core.List.{List, ◌∷◌}
-use Prim.Native.Nat.{ℕ, suc, ◌+◌, ◌≤◌, ◌<◌, min}
+use Prim.Native.Nat.{ℕ, suc, ◌+◌, ◌*◌, ◌≤◌, ◌<◌, min}
 use native.Mathlib.Omega.{arith}
 use native.Mathlib.Numerals.{add-one}
 use borrow.Author.Tests.{ltb-true, ltb-false}
@@ -30,8 +30,15 @@ same_answer m n room e = go (ltb Number.limit m) refl (ltb Number.limit n) refl
 -- i of the entries were judged and found good; with what stands in front of the table they take m bytes, past the limit m or more
 pub record Measured (W : Writer) (entries : List W.Entry) (buffer_length front m i : ℕ) : Type 0 where
   pub below : i ≤ length entries
+  pub small : m ≤ front + i * 65539
   pub good : all_ok W buffer_length entries ≡ all_ok W buffer_length (drop i entries)
   pub added : told (m + sizes W (drop i entries)) ≡ told (front + sizes W entries)
+
+-- i of the entries were judged and found good; of the room behind a place so much is left
+pub record Fitted (W : Writer) (entries : List W.Entry) (buffer_length from room left i : ℕ) : Type 0 where
+  pub below : i ≤ length entries
+  pub good : all_ok W buffer_length entries ≡ all_ok W buffer_length (drop i entries)
+  pub kept : left + from + sizes W entries ≡ room + sizes W (drop i entries)
 
 -- k of the entries were put, from a place of the output on: the bytes of the others, put where the writer stands, give the whole output
 pub record Placed (W : Writer) (entries : List W.Entry) (b out₀ : List ℕ) (at₀ : ℕ) (out : List ℕ) (at k : ℕ) : Type 0 where
@@ -40,7 +47,7 @@ pub record Placed (W : Writer) (entries : List W.Entry) (b out₀ : List ℕ) (a
   pub room : at + sizes W (drop k entries) ≤ length out
   pub so_far : sets out₀ at₀ (joined W b entries) ≡ sets out at (joined W b (drop k entries))
 
--- ---- a turn of the second
+-- ---- a turn of the last
 pub placed_turn : {W : Writer} {entries : List W.Entry} {b out₀ : List ℕ} {at₀ : ℕ} {one : List ℕ → W.Entry → List ℕ} → Bodied W one
     → {out : List ℕ} {at k : ℕ} → Placed W entries b out₀ at₀ out at k → (t : W.Entry) → k < length entries → t ≡ get_or entries k t
     → {out' : List ℕ} {j : ℕ} → out' ≡ put_at out at (one b t) → j ≡ W.size t → Placed W entries b out₀ at₀ out' (at + j) (k + 1)

@@ -1,6 +1,7 @@
 -- A kind of table by its parts, and what is answered and left of one that is written.
-use Rattle.std.specs.Prelude.{ℕ, ◌+◌, Bool, List, length, Ok, Err}
+use Rattle.std.specs.Prelude.{ℕ, ◌+◌, Bool, false, List, length, leb, Ok, Err}
 use Rattle.std.proofs.lemmas.List.Edits.{sets}
+use Rattle.wire.specs.Bytes.{pick}
 use Rattle.writing.specs.Write.{WriteAnswer, write_answer}
 use Rattle.writing.specs.Table.{Writer, joined, all_ok, sizes}
 
@@ -18,3 +19,11 @@ after_from (Err r) from s out = out
 
 abbrev pub table_written : (W : Writer) → ℕ → List W.Entry → List ℕ → List ℕ → List ℕ
 table_written W front entries b out = after_from (table_answer W front entries b out) front (joined W b entries) out
+
+-- whether each entry can be written, and all of them fit between a place and the end of the room
+abbrev pub fits : (W : Writer) → ℕ → List W.Entry → ℕ → ℕ → Bool
+fits W from entries buffer_length room = pick (all_ok W buffer_length entries) (leb (from + sizes W entries) room) false
+
+-- the output after entries are put from a place on: with the bytes of all of them, or as it was
+abbrev pub all_put : (W : Writer) → ℕ → List W.Entry → List ℕ → List ℕ → List ℕ
+all_put W from entries b out = pick (fits W from entries (length b) (length out)) (sets out from (joined W b entries)) out

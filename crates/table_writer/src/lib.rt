@@ -5,7 +5,7 @@ ghost use Rattle.std.specs.Prelude.{◌≡◌, ℕ, ◌+◌, ◌≤◌, Bool, tr
 ghost use Rattle.std.proofs.lemmas.List.Edits.{sets};
 ghost use Rattle.writing.specs.Write.{put_at, write_answer};
 ghost use Rattle.writing.specs.Table.{joined, all_ok, sizes, Bodied};
-ghost use Rattle.table_writer.specs.Writer.{writer_of, table_answer, table_written};
+ghost use Rattle.table_writer.specs.Writer.{writer_of, table_answer, table_written, fits, all_put};
 
 use wire::Refusal;
 
@@ -54,13 +54,13 @@ pub fn write<T: Table>(
     ensures left { out.new ≡ table_written (writer_of T.Entry T.Item T.part T.put_item T.ok T.size) front entries.now buffer.now out.old }
 {
     let length = answer::<T>(front, entries, buffer.len(), out.len())?;
-    put_all::<T>(out, front, entries, buffer);
+    put_each::<T>(out, front, entries, buffer);
     Ok(length)
 }
 
 // How many bytes front and entries take, or why nothing is written. Past the limit no more is added: the answer is the same, and no sum wraps.
 #[tactic(auto, using(crate::proofs::Passes::same_answer))]
-fn answer<T: Table>(
+pub fn answer<T: Table>(
     front: usize,
     entries: &[T::Entry],
     buffer_length: usize,
@@ -80,8 +80,36 @@ fn answer<T: Table>(
     writing::write_answer(true, length, room)
 }
 
+// Puts entries one behind the other, from a place of the output on, with no limit but the output's end: where one cannot be written, or they
+// do not all fit, nothing changes.
+pub fn put_all<T: Table>(out: &mut [u8], from: usize, entries: &[T::Entry], buffer: &[u8])
+    ensures { out.new ≡ all_put (writer_of T.Entry T.Item T.part T.put_item T.ok T.size) from entries.now buffer.now out.old }
+{
+    if fits::<T>(from, entries, buffer.len(), out.len()) {
+        put_each::<T>(out, from, entries, buffer);
+    }
+}
+
+// Whether each entry can be written, and all of them fit between a place and the end of the room.
+fn fits<T: Table>(from: usize, entries: &[T::Entry], buffer_length: usize, room: usize) -> bool
+    ensures { result ≡ fits (writer_of T.Entry T.Item T.part T.put_item T.ok T.size) from entries.now buffer_length room }
+{
+    let Some(mut left) = room.checked_sub(from) else {
+        return false;
+    };
+    for (i, entry) in entries.iter().enumerate() {
+        let length = T::length(*entry);
+        let after = entries.len() - i - 1;
+        if left < length || !T::is_writable(*entry, buffer_length, after) {
+            return false;
+        }
+        left -= length;
+    }
+    true
+}
+
 // Puts writable entries one behind the other, from a place of the output on.
-fn put_all<T: Table>(out: &mut [u8], from: usize, entries: &[T::Entry], buffer: &[u8])
+fn put_each<T: Table>(out: &mut [u8], from: usize, entries: &[T::Entry], buffer: &[u8])
     requires writable { all_ok (writer_of T.Entry T.Item T.part T.put_item T.ok T.size) (length buffer.now) entries.now ≡ true }
     requires room { from + sizes (writer_of T.Entry T.Item T.part T.put_item T.ok T.size) entries.now ≤ length out.old }
     ensures { out.new ≡ sets out.old from (joined (writer_of T.Entry T.Item T.part T.put_item T.ok T.size) buffer.now entries.now) }

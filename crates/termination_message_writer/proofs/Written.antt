@@ -1,5 +1,5 @@
 -- What the writing kit asks of a Termination body. Assumes nothing.
-use mathlib.Core.Path.{◌≡◌, refl}
+use mathlib.Core.Path.{◌≡◌, refl, ◌∙◌}
 use mathlib.Core.Bool.{Bool, true, false}
 use mathlib.Core.List.{List}
 use Prim.Native.Nat.{ℕ, ◌+◌, ◌%◌, ◌≤◌}
@@ -11,6 +11,8 @@ use Rattle.wire.specs.Bytes.{pick}
 use Rattle.wire.specs.View.{viewed}
 use Rattle.wire.proofs.Tlv.{put_tlv_long, coded_length}
 use Rattle.writing.specs.Write.{WriteAnswer, Wrote}
+use Rattle.writing.specs.Table.{sizes}
+use Rattle.writing.proofs.Table.{kept_of, length_joined}
 use Rattle.tlv_table.specs.Tlvs.{entry_writable_before}
 use Rattle.tlv_table.specs.declared.TlvValue.TheVariants.{Part, Number}
 use Rattle.tlv_table.specs.declared.TlvEntry.{TlvEntry}
@@ -68,6 +70,10 @@ long (reason size code) = 6
 pub put_long : (t : Tlv) (r : List ℕ) → length (put t r) ≡ long t + length r
 put_long (string size value) r = put_tlv_long (record { kind = 0; size = size; value = value }) r
 put_long (reason size code) r = coded_length 1 size code r
+
+-- ---- how many bytes a writable record takes
+pub bytes_long : (m : TerminationMessage) (b : List ℕ) → writable m (length b) ≡ true → length (bytes_of m b) ≡ 0 + sizes writer (kept m)
+bytes_long m b e = length_joined writer (bodied entries) b (kept m) (kept_of writer places m.count m.tlvs (length b) e).fine ∙ omega arith
 
 -- ---- the table is the whole record
 pub whole_written : (m : TerminationMessage) (b out o : List ℕ) (a : WriteAnswer) → m.count ≤ places

@@ -4,7 +4,7 @@ use lib.Seq.{length-sets}
 use Rattle.wire.specs.Bytes.{Bytes}
 use Rattle.wire.proofs.Held.{slice_bytes, array_bytes}
 use Rattle.peer_up_notification_writer.specs.Write.{endpoint_bytes, front_length, Typed}
-use Rattle.peer_up_notification_writer.proofs.Written.{FineFront, front_of, front_ok, length_opens, refused_whole, room, put_whole}
+use Rattle.peer_up_notification_writer.proofs.Written.{FineFront, front_of, front_ok, length_opens, refused_whole, room, wrote_whole}
 use Rattle.peer_up_notification_writer.proofs.write_peer_up_notification.Goals as goal
 
 pub returns-in_err-length : goal.returns-in_err-length
@@ -39,4 +39,4 @@ returns c =
       remote_port_fits = omega (arith, c.well_formed);
       table_long = search rules;
     } in
-    put_whole c.args.message b p typed.octets.many (omega arith) fine _ _ _ (sym c.in_ok-length.was ∙ c.write.ensures.answered) c.write.ensures.left refl c.put_endpoints.ensures c.put_opens.ensures
+    wrote_whole c.args.message b p typed.octets.many (omega arith) fine _ _ _ (sym c.in_ok-length.was ∙ c.write.ensures.answered) c.write.ensures.left refl c.put_endpoints.ensures c.put_opens.ensures

@@ -1,6 +1,6 @@
 use Rattle.table_writer.specs.Writer.{writer_of}
 use Rattle.table_writer.proofs.Passes.{Placed}
-use Rattle.table_writer.proofs.put_all.Given as goal
+use Rattle.table_writer.proofs.put_each.Given as goal
 
 abbrev pub invariant-loop-entry : goal.invariant-loop-entry
 invariant-loop-entry g l =

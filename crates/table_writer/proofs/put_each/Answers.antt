@@ -1,5 +1,5 @@
 use Rattle.table_writer.proofs.Passes.{placed_turn}
-use Rattle.table_writer.proofs.put_all.Goals as goal
+use Rattle.table_writer.proofs.put_each.Goals as goal
 
 pub loop-entry-preserved : goal.loop-entry-preserved
 loop-entry-preserved g c =

@@ -1,0 +1,8 @@
+use Rattle.table_writer.specs.Writer.{writer_of}
+use Rattle.table_writer.proofs.Passes.{Fitted}
+use Rattle.table_writer.proofs.fits.Given as goal
+
+abbrev pub invariant-loop-i : goal.invariant-loop-i
+invariant-loop-i g l =
+    let t = g.T.Table in
+    Fitted (writer_of _ t.Item t.part t.put_item t.ok t.size) l.entries l.buffer_length l.from l.room l.left l.i
