@@ -98,7 +98,7 @@ fn put_answer(out: &mut [u8], command: Command, body: &[u8], room: &mut [u8]) ->
 fn put_read(out: &mut [u8], kind: Kind, arguments: Arguments, body: &[u8]) -> usize {
     let found = trial_readers::read(kind, arguments, body);
     let mut next = trial_forms::put(out, 0, found, body);
-    if !begins_table(found.form) {
+    if !trial_forms::begins_table(found.form) {
         return next;
     }
     for i in 0..found.count {
@@ -106,11 +106,6 @@ fn put_read(out: &mut [u8], kind: Kind, arguments: Arguments, body: &[u8]) -> us
         next = trial_forms::put(out, next, entry, body);
     }
     trial_forms::put(out, next, trial_forms::bare(Form::TableEnd as usize), body)
-}
-
-// Does a record's table follow this form, entry by entry, and then its end?
-fn begins_table(form: usize) -> bool {
-    form == Form::PeerUp as usize || form == Form::Stats as usize || form == Form::Tlvs as usize
 }
 
 // A record that the reader refuses is not written.
@@ -122,15 +117,11 @@ fn put_rewritten(
     room: &mut [u8],
 ) -> usize {
     let found = trial_readers::read(kind, arguments, body);
-    if is_refusal(found.form) {
+    if trial_forms::is_refusal(found.form) {
         return trial_forms::put(out, 0, found, body);
     }
     let tail = found.numbers[1] as usize;
     put_written(out, kind, arguments, body, output(room, tail))
-}
-
-fn is_refusal(form: usize) -> bool {
-    form == Form::Refused as usize || form == Form::Cut as usize
 }
 
 // Two bytes more than the tail's start. A tail starts within the line's bytes, so there is always room; were there none, the writer would

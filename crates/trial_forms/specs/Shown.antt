@@ -1,9 +1,31 @@
 -- Answers that are a form and a few numbers.
-use Rattle.std.specs.Prelude.{ℕ, [], ◌∷◌, ◌==◌}
+use Rattle.std.specs.Prelude.{ℕ, Bool, true, false, [], ◌∷◌, ◌==◌}
 use Rattle.wire.specs.Number as Number
 use Rattle.wire.specs.Bytes.{pick}
 use Rattle.wire.specs.declared.Refusal.{Refusal}
+use Rattle.trial_forms.specs.declared.Form.{Form}
+use Rattle.trial_forms.specs.declared.Form.TheVariants.{Refused, Cut, PeerUp, Stats, Tlvs}
 use Rattle.trial_forms.specs.declared.Shown.{Shown}
+
+-- the forms of refusals
+abbrev pub is_refusal : Form → Bool
+is_refusal Refused = true
+is_refusal Cut = true
+is_refusal form = false
+
+-- the forms of records whose table follows, entry by entry
+abbrev pub begins_table : Form → Bool
+begins_table PeerUp = true
+begins_table Stats = true
+begins_table Tlvs = true
+begins_table form = false
+
+-- the same by their numbers
+abbrev pub refusal_at : ℕ → Bool
+refusal_at form = pick (form == 0) true (form == 1)
+
+abbrev pub table_at : ℕ → Bool
+table_at form = pick (form == 17) true (pick (form == 18) true (form == 19))
 
 abbrev pub of_five : ℕ → ℕ → ℕ → ℕ → ℕ → ℕ → ℕ → Shown
 of_five form count a b c d e =

@@ -7,7 +7,7 @@ ghost use Rattle.std.specs.Prelude.{◌≡◌, ◌<◌, ◌≤◌};
 ghost use Rattle.writing.specs.Write.{put_at};
 ghost use Rattle.decimal.specs.Decimal.{decimal};
 ghost use Rattle.trial_forms.specs.Kinds.{kind_at};
-ghost use Rattle.trial_forms.specs.Shown.{of_five, bare, refused_form, refused_as, judged_as};
+ghost use Rattle.trial_forms.specs.Shown.{is_refusal, begins_table, refusal_at, table_at, of_five, bare, refused_form, refused_as, judged_as};
 ghost use Rattle.trial_forms.specs.Text.{place_after, hex_digit, hex};
 
 use models::{Afi, AsnLength};
@@ -97,6 +97,22 @@ pub enum Form {
     Peer,
 }
 
+impl Form {
+    // Is it that of a refusal?
+    pub fn is_refusal(self) -> bool
+        ensures { result ≡ is_refusal self }
+    {
+        is_refusal(self as usize)
+    }
+
+    // Does a record's table follow it, entry by entry, and then its end?
+    pub fn begins_table(self) -> bool
+        ensures { result ≡ begins_table self }
+    {
+        begins_table(self as usize)
+    }
+}
+
 // The text of each form, in the same order. Entries begin with a comma, but for the first of a table.
 static TEXTS: [&[u8]; 37] = [
     b"refused # at #\n",
@@ -155,6 +171,20 @@ pub fn of_five(form: usize, count: usize, a: u64, b: u64, c: u64, d: u64, e: u64
         count,
         numbers: [a, b, c, d, e, 0, 0, 0, 0, 0, 0, 0, 0, 0, 0, 0],
     }
+}
+
+// Is the form that has this number that of a refusal?
+pub fn is_refusal(form: usize) -> bool
+    ensures { result ≡ refusal_at form }
+{
+    form == Form::Refused as usize || form == Form::Cut as usize
+}
+
+// Does a record's table follow the form that has this number, entry by entry, and then its end?
+pub fn begins_table(form: usize) -> bool
+    ensures { result ≡ table_at form }
+{
+    form == Form::PeerUp as usize || form == Form::Stats as usize || form == Form::Tlvs as usize
 }
 
 // Puts an answer or an entry by its form; where no form has the number, it puts nothing.
@@ -317,4 +347,20 @@ fn put_decimal(out: &mut [u8], at: usize, n: u64) -> usize
         return at;
     }
     at + count
+}
+
+#[cfg(test)]
+mod tests {
+    use super::*;
+
+    #[test]
+    fn forms_of_refusals_and_of_tables(rt: HostRuntime) {
+        assert!(rt; Form::Refused.is_refusal() && Form::Cut.is_refusal());
+        assert!(rt; !Form::BadLine.is_refusal() && !Form::Peer.is_refusal());
+        assert!(rt;
+            Form::PeerUp.begins_table() && Form::Stats.begins_table() && Form::Tlvs.begins_table()
+        );
+        assert!(rt; !Form::Monitoring.begins_table() && !Form::Counter.begins_table());
+        assert!(rt; !is_refusal(37) && !begins_table(usize::MAX));
+    }
 }
