@@ -27,12 +27,22 @@ same_answer m n room e = go (ltb Number.limit m) refl (ltb Number.limit n) refl
     go true p false q = absurd (omega (arith, ltb-true Number.limit m p, ltb-false Number.limit n q))
     go false p c q = let k : m ≡ n = omega (arith, ltb-false Number.limit m p) in rw k
 
--- i of the entries were judged and found good; with what stands in front of the table they take m bytes, past the limit m or more
+-- i of the entries were judged and found good; with what stands in front of the table they take m bytes
 pub record Measured (W : Writer) (entries : List W.Entry) (buffer_length front m i : ℕ) : Type 0 where
   pub below : i ≤ length entries
   pub small : m ≤ front + i * 65539
   pub good : all_ok W buffer_length entries ≡ all_ok W buffer_length (drop i entries)
+  pub added : m + sizes W (drop i entries) ≡ front + sizes W entries
+
+-- the same, but that past the limit they take m or more: a loop that adds nothing more there can say no other
+pub record MeasuredToLimit (W : Writer) (entries : List W.Entry) (buffer_length front m i : ℕ) : Type 0 where
+  pub below : i ≤ length entries
+  pub good : all_ok W buffer_length entries ≡ all_ok W buffer_length (drop i entries)
   pub added : told (m + sizes W (drop i entries)) ≡ told (front + sizes W entries)
+
+pub to_limit : {W : Writer} {entries : List W.Entry} {buffer_length front m i : ℕ} → Measured W entries buffer_length front m i
+    → MeasuredToLimit W entries buffer_length front m i
+to_limit x = record { below = x.below; good = x.good; added = ap told x.added }
 
 -- i of the entries were judged and found good; of the room behind a place so much is left
 pub record Fitted (W : Writer) (entries : List W.Entry) (buffer_length from room left i : ℕ) : Type 0 where
